@@ -1,0 +1,5 @@
+pub mod Cause
+pub mod Taking
+pub mod Memory
+pub mod MemoryTelling
+pub mod Streams

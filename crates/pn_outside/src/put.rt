@@ -1,0 +1,16 @@
+ghost use Rattle.pn_outside.specs.Cause.{HasCause};
+ghost use Rattle.pn_outside.specs.Taking.{Puts};
+
+use crate::{Failed, Sink};
+
+/// Writes all of `bytes`. After `Failed` a front of them is out. Takes no memory.
+pub fn put_all<K: Sink>(sink: &mut K, bytes: &[u8]) -> Result<(), Failed>
+    ensures puts { Puts K.taken K.number result sink.old sink.new bytes.now }
+    ensures cause { HasCause (K.faults sink.old) (K.faults sink.new) result }
+{
+    let mut at = 0;
+    while at < bytes.len() {
+        at += sink.write(&bytes[at..])?;
+    }
+    Ok(())
+}
