@@ -1,11 +1,10 @@
 -- What a sink took in several calls, one after the other.
-use Rattle.std.proofs.Common.{◌≡◌, ℕ, ◌+◌, ◌-◌, ◌<◌, ◌≤◌, min, List, [], ◌∷◌, ◌++◌, length, take, drop, get_or, Option, None, Some, Result, Ok, Err, IsErr, refl, sym, ap, ◌∙◌, subst, append_assoc, append-nil, add-one, arith, length-append, take-append-drop}
+use Rattle.std.proofs.Common.{◌≡◌, ℕ, ◌+◌, ◌<◌, ◌≤◌, List, [], ◌∷◌, ◌++◌, length, take, drop, get_or, Option, None, Some, Result, Ok, Err, IsErr, sym, ap, ◌∙◌, subst, append_assoc, append-nil, add-one, arith, length-append, take-append-drop}
 use Rattle.std.proofs.lemmas.List.{length-take-le, take-append-le}
 use Rattle.std.proofs.lemmas.Grind.{common_steps, flat_map-append}
 use Rattle.std.proofs.Math.Seq.{take-suc, take-append_seam, take-append-add}
 use Rattle.std.specs.Io.KnownBytes.{Appends}
 use Rattle.std.specs.List.{flat_map}
-use Rattle.pn_outside.specs.Cause.{capped}
 use Rattle.pn_outside.specs.Taking.{Grew, Takes, TakesFront, Puts}
 
 appends_nothing : (a : Option (List ℕ)) → Appends a a []
@@ -118,3 +117,24 @@ module _ {S : Type 0} {taken : S → Option (List ℕ)} {number : S → Option �
       let whole : flat_map text xs ≡ flat_map text (take (i + 1) xs) ++ flat_map text (drop (i + 1) xs) =
       ap (flat_map text) (sym (take-append-drop (i + 1) xs)) ∙ flat_map-append text (take (i + 1) xs) (drop (i + 1) xs) in
       rw whole (front_more a c (flat_map text (take (i + 1) xs)) (flat_map text (drop (i + 1) xs)) (rw piece front))
+
+  -- a call that took nothing took a front of any text
+  pub front_nothing : (a b : S) (text : List ℕ) → Takes taken number a b [] → TakesFront taken number a b text
+  front_nothing a b text p = record { size = 0; within = omega arith; takes = p }
+
+  -- all of a text is a front of it
+  pub front_whole : (a b : S) (text : List ℕ) → Takes taken number a b text → TakesFront taken number a b text
+  front_whole a b text p = record { size = length text; within = omega arith; takes = let all : take (length text) text ≡ text = grind (arith, common_steps) in rw all p }
+
+  -- a `done` after a call that put a text, which appends nothing
+  pub puts_done : {E : Type 0} (a b c : S) (text : List ℕ) (r : Result (Unit {0}) E) → Takes taken number a b text → Takes taken number b c [] → Puts taken number r a c text
+  puts_done a b c text (Ok u) p q = record { all = subst (Takes taken number a c) (append-nil text) (takes_both a b c text [] p q); front = tt }
+  puts_done a b c text (Err e) p q = record {
+    all = tt;
+    front = front_whole a c text (subst (Takes taken number a c) (append-nil text) (takes_both a b c text [] p q));
+  }
+
+  -- however a call that puts a text ends, a front of it is out
+  pub puts_front : {E : Type 0} (a b : S) (text : List ℕ) (r : Result (Unit {0}) E) → Puts taken number r a b text → TakesFront taken number a b text
+  puts_front a b text (Ok u) p = front_whole a b text p.all
+  puts_front a b text (Err e) p = p.front

@@ -1,5 +1,5 @@
 -- The sources and sinks over memory, as contracts see them.
-use Rattle.std.specs.Prelude.{◌≡◌, ℕ, ◌+◌, ◌-◌, ◌<◌, ◌≤◌, ◌↔◌, ◌⊎◌, ◌++◌, Bool, true, false, ◌&&◌, ◌==◌, min, max, List, [], ◌∷◌, length, take, drop, slice_index, if◌then◌else◌, nat_lt, is_ok, Result, Contains, IsErr, IfOk, MatchResult}
+use Rattle.std.specs.Prelude.{◌≡◌, ℕ, ◌+◌, ◌-◌, ◌<◌, ◌↔◌, ◌⊎◌, ◌++◌, Bool, ◌&&◌, ◌==◌, min, max, List, [], ◌∷◌, length, take, drop, slice_index, if◌then◌else◌, nat_lt, is_ok, Result, Contains, IsErr, IfOk, MatchResult}
 use Rattle.pn_outside.specs.Cause.{one_more, CountsFault}
 
 -- a source over memory: the bytes left, its cuts and the place of the next one in their ring,

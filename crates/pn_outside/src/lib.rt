@@ -16,3 +16,6 @@ pub use plain::{CountSink, PlainSource};
 pub use put::put_all;
 pub use streams::{StdSink, StdSource};
 pub use traits::{Failed, Sink, Source};
+
+#[cfg(test)]
+mod tests;

@@ -1,6 +1,5 @@
-use Rattle.std.proofs.Common.{◌≡◌, ◌-◌, length, take, drop, arith, sym, subst}
+use Rattle.std.proofs.Common.{◌≡◌, ◌-◌, length, take, drop, arith, subst}
 use Rattle.std.proofs.lemmas.Grind.{common_steps}
-use Rattle.std.proofs.lemmas.List.{length-drop, take_all}
 use Rattle.pn_outside.specs.Taking.{Takes}
 use Rattle.pn_outside.proofs.TakingLemmas.{took_nothing, takes_more, front_stays, puts_failed}
 use Rattle.pn_outside.proofs.put.put_all.Goals as goal

@@ -1,0 +1,5 @@
+pub mod FrontLemmas
+pub mod PartLemmas
+pub mod ListLemmas
+pub mod PageLemmas
+pub mod RoleLemmas

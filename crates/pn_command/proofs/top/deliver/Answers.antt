@@ -1,0 +1,22 @@
+use Rattle.std.proofs.Common.{[]}
+use Rattle.pn_outside.proofs.TakingLemmas.{took_nothing, front_nothing, puts_front}
+use Rattle.pn_command.specs.Lines.{usage_line, not_yet_line, summary_line}
+use Rattle.pn_command.proofs.top.deliver.Goals as goal
+
+pub returns-in-Misused-clause-begun : goal.returns-in-Misused-clause-begun
+returns-in-Misused-clause-begun g c = rw c.in-Misused.is record {
+  out = front_nothing c.args.out.now c.args.out.now [] (took_nothing c.args.out.now);
+  err = puts_front c.args.err.now c.write_line.new.sink usage_line c.write_line.result c.write_line.ensures.puts;
+}
+
+pub returns-in-NotYet-clause-begun : goal.returns-in-NotYet-clause-begun
+returns-in-NotYet-clause-begun g c = rw c.in-NotYet.is record {
+  out = front_nothing c.args.out.now c.args.out.now [] (took_nothing c.args.out.now);
+  err = puts_front c.args.err.now c.write_line-in-NotYet.new.sink not_yet_line c.write_line-in-NotYet.result c.write_line-in-NotYet.ensures.puts;
+}
+
+pub returns-in-Summary-clause-begun : goal.returns-in-Summary-clause-begun
+returns-in-Summary-clause-begun g c = rw c.in-Summary.is record {
+  out = puts_front c.args.out.now c.write_summary.new.sink (summary_line c.in-Summary.summary) c.write_summary.result c.write_summary.ensures.puts;
+  err = front_nothing c.args.err.now c.args.err.now [] (took_nothing c.args.err.now);
+}

@@ -1,0 +1,11 @@
+-- The words of the command line.
+use Rattle.std.specs.Prelude.{List, [], ◌∷◌, ℕ, codes, Option, None, Some, if◌then◌else◌}
+use Rattle.std.specs.Str.{bytes_eq}
+use Rattle.pn_command.specs.declared.words.Asked.{Asked}
+use Rattle.pn_command.specs.declared.words.Asked.TheVariants.{Check}
+
+-- the command that the words ask for: so far `check` alone
+abbrev pub asked_of : List (List ℕ) → Option Asked
+asked_of [] = None
+asked_of (word ∷ []) = if bytes_eq word (codes "check") then Some Check else None
+asked_of (word ∷ next ∷ words) = None

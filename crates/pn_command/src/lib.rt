@@ -1,0 +1,17 @@
+//! The top call of the program: from the words and the bytes that come in to the bytes that go out.
+#![tactic(auto)]
+
+mod due;
+mod input;
+mod lines;
+mod plain;
+mod status;
+mod top;
+mod words;
+
+pub use status::Status;
+pub use top::run;
+pub use words::{Asked, asks};
+
+#[cfg(test)]
+mod tests;

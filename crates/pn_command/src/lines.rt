@@ -1,0 +1,53 @@
+//! The lines that the program writes.
+
+ghost use Rattle.std.specs.Prelude.{◌≡◌, ◌++◌, codes, decimal};
+ghost use Rattle.pn_outside.specs.Cause.{HasCause};
+ghost use Rattle.pn_outside.specs.Taking.{Puts};
+ghost use Rattle.pn_command.specs.Lines.{summary_line};
+
+use itoa::{Buffer, Integer};
+use pn_outside::{Failed, Sink, put_all};
+
+pub(crate) const USAGE: &str =
+    "pnml: usage: check, flatten, step MODE (one or more), modes T, unfold, trial N\n";
+
+pub(crate) const NOT_YET: &str = "pnml: not yet\n";
+
+/// How many places, transitions, arcs and initial tokens a net has.
+#[derive(Clone, Copy, Debug, PartialEq, Eq)]
+pub(crate) struct Summary {
+    pub(crate) places: usize,
+    pub(crate) transitions: usize,
+    pub(crate) arcs: usize,
+    pub(crate) tokens: u128,
+}
+
+/// Puts a text.
+pub(crate) fn put_text<K: Sink>(sink: &mut K, text: &str) -> Result<(), Failed>
+    ensures puts { Puts K.taken K.number result sink.old sink.new text.now }
+    ensures cause { HasCause (K.faults sink.old) (K.faults sink.new) result }
+{
+    put_all(sink, text.as_bytes())
+}
+
+/// Puts a label and the number behind it.
+fn put_count<K: Sink, N: Integer>(sink: &mut K, label: &str, number: N) -> Result<(), Failed>
+    ensures puts { Puts K.taken K.number result sink.old sink.new (label.now ++ N.text number) }
+    ensures cause { HasCause (K.faults sink.old) (K.faults sink.new) result }
+{
+    put_text(sink, label)?;
+    let mut digits = Buffer::new();
+    put_text(sink, digits.format(number))
+}
+
+/// Puts the line that sums a net up.
+pub(crate) fn put_summary<K: Sink>(sink: &mut K, summary: Summary) -> Result<(), Failed>
+    ensures puts { Puts K.taken K.number result sink.old sink.new (summary_line summary) }
+    ensures cause { HasCause (K.faults sink.old) (K.faults sink.new) result }
+{
+    put_count(sink, "ptnet places ", summary.places)?;
+    put_count(sink, " transitions ", summary.transitions)?;
+    put_count(sink, " arcs ", summary.arcs)?;
+    put_count(sink, " tokens ", summary.tokens)?;
+    put_text(sink, "\n")
+}

@@ -1,0 +1,6 @@
+//! The reader of plain nets.
+
+mod links;
+pub(crate) mod net;
+mod parts;
+pub(crate) mod read;

@@ -1,0 +1,67 @@
+use pn_text::Text;
+use std::marker::Model;
+
+/// What an id of a plain net names.
+#[derive(Clone, Copy, Debug, PartialEq, Eq)]
+pub(crate) enum Role {
+    Net,
+    Page,
+    Place,
+    Transition,
+    Arc,
+}
+
+/// The greatest number of tokens of a place.
+pub(crate) const GREATEST_COUNT: u64 = 9223372036854775807;
+
+/// A place: its id and its initial marking, where one is written.
+#[derive(Debug, Drop)]
+pub(crate) struct Place {
+    pub(crate) id: Text,
+    pub(crate) marking: Option<u64>,
+}
+
+/// An arc: its id and the ids of its ends.
+#[derive(Debug, Drop)]
+pub(crate) struct Arc {
+    pub(crate) id: Text,
+    pub(crate) source: Text,
+    pub(crate) target: Text,
+}
+
+/// The page: its id, and what stands on it, in order. Contracts see the contents.
+#[derive(Debug, Drop)]
+pub(crate) struct PlainPage {
+    pub(crate) id: Text,
+    pub(crate) places: Vec<Place>,
+    pub(crate) transitions: Vec<Text>,
+    pub(crate) arcs: Vec<Arc>,
+}
+
+impl Model for PlainPage {
+    ghost use Rattle.pn_command.specs.Plain.{Page};
+
+    ghost Value = { Page };
+
+    ghost view = { λ p. record {
+      id = p.id;
+      places = p.places.items;
+      transitions = p.transitions.items;
+      arcs = p.arcs.items;
+    } };
+}
+
+/// A plain net: its id and its page.
+#[derive(Debug, Drop)]
+pub(crate) struct PlainNet {
+    pub(crate) id: Text,
+    pub(crate) page: PlainPage,
+}
+
+impl Model for PlainNet {
+    ghost use Rattle.pn_command.specs.Plain.{PlainNet};
+
+    ghost Value = { PlainNet };
+
+    ghost view = { λ n. record { id = n.id; page = n.page } };
+}

@@ -1,0 +1,185 @@
+use super::*;
+use pn_outside::{MemorySink, MemorySource, PlainSource};
+use std::alloc::{AllocError, Global};
+use std::process::Abort;
+use std::test::Fail;
+
+const TRANSFER: &str =
+    "<pnml xmlns=\"http://www.pnml.org/version-2009/grammar/pnml\"><net id=\"n\" type=\"http://www.pnml.org/version-2009/grammar/ptnet\"><page id=\"g\"><place id=\"a\"><initialMarking><text>3</text></initialMarking></place><place id=\"b\"/><transition id=\"t\"/><arc id=\"u\" source=\"a\" target=\"t\"/><arc id=\"v\" source=\"t\" target=\"b\"/></page></net></pnml>";
+
+const USAGE: &str =
+    "pnml: usage: check, flatten, step MODE (one or more), modes T, unfold, trial N\n";
+
+const NOT_YET: &str = "pnml: not yet\n";
+
+/// What a call ends with, and what it wrote.
+#[derive(Debug, Drop)]
+struct Ended {
+    status: Status,
+    out: MemorySink,
+    err: MemorySink,
+}
+
+/// Runs the program on a document that comes in pieces of `cut` bytes, and whose read number
+/// `failing` fails, with so much room on the standard output.
+fn run_on(
+    alloc: Global,
+    words: &[&str],
+    document: &str,
+    cut: usize,
+    failing: u64,
+    room: usize,
+) -> Result<Ended, AllocError> {
+    let mut owned = Vec::new(alloc);
+    for word in words {
+        owned.push(String::from_str(alloc, word)?)?;
+    }
+    let bytes = Vec::from_slice(alloc, document.as_bytes())?;
+    let cuts = Vec::from_slice(alloc, &[cut])?;
+    let mut source = MemorySource::new(bytes, cuts, Vec::from_slice(alloc, &[failing])?);
+    let mut side = PlainSource::new(Vec::new(alloc));
+    let mut out = MemorySink::new(alloc, room, Vec::new(alloc))?;
+    let mut err = MemorySink::new(alloc, 1000, Vec::new(alloc))?;
+    let status = run(alloc, &owned, &mut source, &mut side, &mut out, &mut err);
+    Ok(Ended { status, out, err })
+}
+
+/// Asserts how the program ends on a document, given whole and byte by byte.
+fn expect(
+    rt: &impl Abort,
+    alloc: Global,
+    words: &[&str],
+    document: &str,
+    status: Status,
+    out: &str,
+    err: &str,
+) -> Result<(), AllocError> {
+    for cut in [1000000, 1] {
+        let got = run_on(alloc, words, document, cut, 0, 1000)?;
+        assert_eq!(rt; got.status, status, "{document}");
+        assert_eq!(rt; got.out.bytes(), out.as_bytes(), "{document}");
+        assert_eq!(rt; got.err.bytes(), err.as_bytes(), "{document}");
+    }
+    Ok(())
+}
+
+/// A document with one part in the place of another.
+fn with(alloc: Global, part: &str, other: &str) -> Result<String, AllocError> {
+    let (before, after) = TRANSFER.split_once(part).unwrap_or((TRANSFER, ""));
+    let mut text = String::from_str(alloc, before)?;
+    text.push_str(other)?;
+    text.push_str(after)?;
+    Ok(text)
+}
+
+#[test]
+fn check_sums_a_plain_net_up(rt: HostRuntime) -> Result<(), Fail> {
+    let alloc = rt.alloc();
+    let line = "ptnet places 2 transitions 1 arcs 2 tokens 3\n";
+    expect(&rt, alloc, &["check"], TRANSFER, Status::Done, line, "")?;
+    let greatest = with(alloc, ">3<", ">9223372036854775807<")?;
+    let line = "ptnet places 2 transitions 1 arcs 2 tokens 9223372036854775807\n";
+    expect(
+        &rt,
+        alloc,
+        &["check"],
+        greatest.as_str(),
+        Status::Done,
+        line,
+        "",
+    )?;
+    Ok(())
+}
+
+#[test]
+fn what_is_not_plain_is_not_yet(rt: HostRuntime) -> Result<(), Fail> {
+    let alloc = rt.alloc();
+    for (part, other) in [
+        ("<place id=\"b\"", "<place id=\"a\""),
+        ("<page id=\"g\"", "<page id=\"n\""),
+        ("<arc id=\"v\"", "<arc id=\"t\""),
+        ("source=\"a\" target=\"t\"", "source=\"a\" target=\"b\""),
+        ("source=\"a\" target=\"t\"", "source=\"c\" target=\"t\""),
+        ("source=\"a\" target=\"t\"", "source=\"g\" target=\"t\""),
+        ("<transition id=\"t\"", "<transition id=\"t.\""),
+        ("<net id=\"n\"", "<net id=\"\""),
+        (">3<", ">03<"),
+        (">3<", "><"),
+        (">3<", ">9223372036854775808<"),
+        ("/><transition", "/> <transition"),
+        (
+            "<place id=\"b\"/><transition id=\"t\"/>",
+            "<transition id=\"t\"/><place id=\"b\"/>",
+        ),
+        ("</page>", "</page><page id=\"h\"></page>"),
+        ("</pnml>", "</pnml> "),
+        ("</pnml>", "</pnml></pnml>"),
+    ] {
+        let document = with(alloc, part, other)?;
+        expect(
+            &rt,
+            alloc,
+            &["check"],
+            document.as_str(),
+            Status::Refused,
+            "",
+            NOT_YET,
+        )?;
+    }
+    Ok(())
+}
+
+#[test]
+fn no_proper_front_is_plain(rt: HostRuntime) -> Result<(), Fail> {
+    let alloc = rt.alloc();
+    let mut front = String::new(alloc);
+    for letter in TRANSFER.chars() {
+        expect(
+            &rt,
+            alloc,
+            &["check"],
+            front.as_str(),
+            Status::Refused,
+            "",
+            NOT_YET,
+        )?;
+        front.push(letter)?;
+    }
+    assert_eq!(rt; front.as_str(), TRANSFER);
+    Ok(())
+}
+
+#[test]
+fn other_words_are_misused(rt: HostRuntime) -> Result<(), Fail> {
+    let alloc = rt.alloc();
+    let none: [&str; 0] = [];
+    expect(&rt, alloc, &none, TRANSFER, Status::Usage, "", USAGE)?;
+    expect(&rt, alloc, &["Check"], TRANSFER, Status::Usage, "", USAGE)?;
+    expect(
+        &rt,
+        alloc,
+        &["check", "check"],
+        TRANSFER,
+        Status::Usage,
+        "",
+        USAGE,
+    )?;
+    Ok(())
+}
+
+#[test]
+fn faults_of_the_streams_are_told(rt: HostRuntime) -> Result<(), Fail> {
+    let alloc = rt.alloc();
+    for cut in [100, 1] {
+        let got = run_on(alloc, &["check"], TRANSFER, cut, 3, 1000)?;
+        assert_eq!(rt; got.status, Status::ReadFault);
+        assert!(rt; got.out.bytes().is_empty() && got.err.bytes().is_empty());
+    }
+    for cut in [1000000, 1] {
+        let got = run_on(alloc, &["check"], TRANSFER, cut, 0, 10)?;
+        assert_eq!(rt; got.status, Status::WriteFault);
+        assert_eq!(rt; got.out.bytes(), b"ptnet plac".as_slice());
+        assert!(rt; got.err.bytes().is_empty());
+    }
+    Ok(())
+}

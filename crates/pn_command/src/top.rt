@@ -1,0 +1,113 @@
+//! The top call.
+
+ghost use Rattle.std.specs.Prelude.{◌≡◌, ◌≤◌, ◌⊎◌, IfSome, OnOk, OnErr, Err, None, map, string_bytes};
+ghost use Rattle.std.specs.Io.KnownBytes.{IsAtEnd};
+ghost use Rattle.pn_outside.specs.Cause.{Rose, HasCause};
+ghost use Rattle.pn_outside.specs.Taking.{Puts};
+ghost use Rattle.pn_command.specs.Answer.{Answers, Begins, EachAnswer, ForAnswer, IsAnswer, IsLine, RoseWhereDue, answer_of};
+ghost use Rattle.pn_command.specs.Lines.{summary_line};
+ghost use Rattle.pn_command.specs.Words.{asked_of};
+
+use crate::Status;
+use crate::due::{Due, decide};
+use crate::input::Stop;
+use crate::lines::{NOT_YET, Summary, USAGE, put_summary, put_text};
+use pn_outside::{Failed, Sink, Source};
+use std::alloc::Global;
+
+/// Writes a line and passes it on.
+fn write_line<K: Sink>(sink: &mut K, line: &str) -> Result<(), Failed>
+    ensures puts { Puts K.taken K.number result sink.old sink.new line.now }
+    ensures settled { OnOk result (K.settled sink.new) }
+    ensures cause { HasCause (K.faults sink.old) (K.faults sink.new) result }
+{
+    put_text(sink, line)?;
+    sink.done()
+}
+
+/// Writes the line that sums a net up, and passes it on.
+fn write_summary<K: Sink>(sink: &mut K, summary: Summary) -> Result<(), Failed>
+    ensures puts { Puts K.taken K.number result sink.old sink.new (summary_line summary) }
+    ensures settled { OnOk result (K.settled sink.new) }
+    ensures cause { HasCause (K.faults sink.old) (K.faults sink.new) result }
+{
+    put_summary(sink, summary)?;
+    sink.done()
+}
+
+/// The status where what is due was written, or where a write failed.
+fn ended(written: Result<(), Failed>, status: Status) -> Status
+    ensures ok { OnOk written (result ≡ status) }
+    ensures err { OnErr written (result ≡ Status.WriteFault) }
+{
+    match written {
+        Ok(()) => status,
+        Err(_) => Status::WriteFault,
+    }
+}
+
+/// Writes what is due, and says how that ended.
+fn deliver<O: Sink, E: Sink>(due: Due, out: &mut O, err: &mut E) -> Status
+    ensures answered { IsAnswer result → Answers O.taken O.number E.taken E.number result out.old out.new err.old err.new (answer_of due) }
+    ensures begun { Begins O.taken O.number E.taken E.number out.old out.new err.old err.new (answer_of due) }
+    ensures ends { (result ≡ (answer_of due).status) ⊎ (result ≡ Status.WriteFault) }
+    ensures write_fault { result ≡ Status.WriteFault → RoseWhereDue (answer_of due).status (O.faults out.old) (O.faults out.new) (E.faults err.old) (E.faults err.new) }
+    ensures done { result ≡ Status.Done → O.settled out.new × (err.new ≡ err.old) }
+    ensures line { IsLine result → E.settled err.new × (out.new ≡ out.old) }
+    ensures later { (O.faults out.old ≤ O.faults out.new) × (E.faults err.old ≤ E.faults err.new) }
+{
+    match due {
+        Due::Misused => ended(write_line(err, USAGE), Status::Usage),
+        Due::NotYet => ended(write_line(err, NOT_YET), Status::Refused),
+        Due::Summary(summary) => ended(write_summary(out, summary), Status::Done),
+    }
+}
+
+/// Answers what the words ask for. `source` gives the document; `side` is a second input that no
+/// command reads so far. The answer's text goes to `out`, a usage or refusal line to `err`.
+/// Reads the input whole, and at most 4095 bytes more than an input may have.
+pub fn run<S: Source, T: Source, O: Sink, E: Sink>(
+    alloc: Global,
+    words: &[String],
+    source: &mut S,
+    side: &mut T,
+    out: &mut O,
+    err: &mut E,
+) -> Status
+    // The answer that is due for the words and the bytes of the source is what the call gives.
+    ensures answered { IsAnswer result → IfSome (S.left source.old) (λ b. ForAnswer (map string_bytes words.now) b
+        (Answers O.taken O.number E.taken E.number result out.old out.new err.old err.new)) }
+
+    // However the call ends, what is written is a front of what was due.
+    ensures begun { IfSome (S.left source.old) (λ b. EachAnswer (map string_bytes words.now) b
+        (Begins O.taken O.number E.taken E.number out.old out.new err.old err.new)) }
+
+    // A failed read or write is answered only where one happened.
+    ensures read_fault { result ≡ Status.ReadFault → Rose (S.faults source.old) (S.faults source.new) }
+    ensures nothing_written { result ≡ Status.ReadFault → (out.new ≡ out.old) × (err.new ≡ err.old) }
+    ensures write_fault { result ≡ Status.WriteFault → IfSome (S.left source.old) (λ b. EachAnswer (map string_bytes words.now) b
+        (λ a. RoseWhereDue a.status (O.faults out.old) (O.faults out.new) (E.faults err.old) (E.faults err.new))) }
+    ensures write_fault_untold { result ≡ Status.WriteFault → Rose (O.faults out.old) (O.faults out.new) ⊎ Rose (E.faults err.old) (E.faults err.new) }
+
+    // Where nothing failed, the call answers or wants memory.
+    ensures complete { ¬ Rose (S.faults source.old) (S.faults source.new) → ¬ Rose (T.faults side.old) (T.faults side.new)
+        → ¬ Rose (O.faults out.old) (O.faults out.new) → ¬ Rose (E.faults err.old) (E.faults err.new)
+        → IsAnswer result ⊎ (result ≡ Status.OutOfMemory) }
+
+    // Where the words ask for nothing, nothing is read and no memory is taken.
+    ensures unread { asked_of (map string_bytes words.now) ≡ None → source.new ≡ source.old }
+    ensures misused { asked_of (map string_bytes words.now) ≡ None → (result ≡ Status.Usage) ⊎ (result ≡ Status.WriteFault) }
+    ensures usage { result ≡ Status.Usage → asked_of (map string_bytes words.now) ≡ None }
+
+    // What stands afterwards.
+    ensures done { result ≡ Status.Done → O.settled out.new × (err.new ≡ err.old) }
+    ensures read_to_end { result ≡ Status.Done → IsAtEnd (S.left source.new) }
+    ensures line { IsLine result → E.settled err.new × (out.new ≡ out.old) }
+    ensures side { side.new ≡ side.old }
+{
+    match decide(alloc, words, source) {
+        Ok(due) => deliver(due, out, err),
+        Err(Stop::Fault) => Status::ReadFault,
+        Err(Stop::Memory) => Status::OutOfMemory,
+    }
+}

@@ -1,0 +1,107 @@
+use super::*;
+use std::io;
+use std::io::{ErrorKind, Read, Write};
+use std::test::Fail;
+
+/// A reader and writer of which one call of each kind fails.
+#[derive(Drop)]
+struct Flaky {
+    reads: u8,
+    writes: u8,
+    flushes: u8,
+}
+
+fn make_flaky() -> Flaky {
+    Flaky {
+        reads: 0,
+        writes: 0,
+        flushes: 0,
+    }
+}
+
+fn broken_pipe() -> io::Error {
+    io::Error::from(ErrorKind::BrokenPipe)
+}
+
+impl Read for Flaky {
+    fn read(&mut self, buf: &mut [u8]) -> io::Result<usize> {
+        self.reads = self.reads.saturating_add(1);
+        if self.reads == 2 {
+            return Err(broken_pipe());
+        }
+        Ok(buf.len().min(1))
+    }
+}
+
+impl Write for Flaky {
+    fn write(&mut self, buf: &[u8]) -> io::Result<usize> {
+        self.writes = self.writes.saturating_add(1);
+        match self.writes {
+            2 => Ok(0),
+            3 => Err(broken_pipe()),
+            _ => Ok(buf.len().min(2)),
+        }
+    }
+
+    fn flush(&mut self) -> io::Result<()> {
+        self.flushes = self.flushes.saturating_add(1);
+        if self.flushes == 1 {
+            return Err(broken_pipe());
+        }
+        Ok(())
+    }
+}
+
+#[test]
+fn a_failing_reader_is_a_fault_once(rt: HostRuntime) {
+    let mut source = StdSource::new(make_flaky());
+    let mut buffer = [0; 4];
+    assert_eq!(rt; source.read(&mut buffer), Ok(1));
+    assert_eq!(rt; source.read(&mut buffer), Err(Failed));
+    assert_eq!(rt; source.read(&mut buffer), Ok(1));
+}
+
+#[test]
+fn a_failing_writer_is_a_fault_each_time(rt: HostRuntime) {
+    let mut sink = StdSink::new(make_flaky());
+    assert_eq!(rt; sink.write(b"abc"), Ok(2));
+    assert_eq!(rt; sink.write(b"c"), Err(Failed), "nothing taken");
+    assert_eq!(rt; sink.write(b"c"), Err(Failed));
+    assert_eq!(rt; sink.done(), Err(Failed));
+    assert_eq!(rt; put_all(&mut sink, b"cdefg"), Ok(()));
+    assert_eq!(rt; sink.done(), Ok(()));
+}
+
+#[test]
+fn cuts_go_round_and_listed_reads_fail(rt: HostRuntime) -> Result<(), Fail> {
+    let alloc = rt.alloc();
+    let bytes = Vec::from_slice(alloc, b"abcdefgh")?;
+    let cuts = Vec::from_slice(alloc, &[3, 0])?;
+    let mut source = MemorySource::new(bytes, cuts, Vec::from_slice(alloc, &[2])?);
+    let mut buffer = [0; 4];
+    for size in [Ok(3), Err(Failed), Ok(1), Ok(3), Ok(1), Ok(0), Ok(0)] {
+        assert_eq!(rt; source.read(&mut buffer), size);
+    }
+    let mut whole = PlainSource::new(Vec::from_slice(alloc, b"abcdef")?);
+    for size in [Ok(4), Ok(2), Ok(0)] {
+        assert_eq!(rt; whole.read(&mut buffer), size);
+    }
+    Ok(())
+}
+
+#[test]
+fn sinks_keep_what_was_taken(rt: HostRuntime) -> Result<(), Fail> {
+    let alloc = rt.alloc();
+    let mut sink = MemorySink::new(alloc, 5, Vec::from_slice(alloc, &[2])?)?;
+    assert_eq!(rt; put_all(&mut sink, b"abc"), Ok(()));
+    assert_eq!(rt; sink.write(b"de"), Err(Failed));
+    assert_eq!(rt; put_all(&mut sink, b"defg"), Err(Failed));
+    assert_eq!(rt; sink.write(b""), Ok(0));
+    assert_eq!(rt; sink.done(), Ok(()));
+    assert_eq!(rt; sink.bytes(), b"abcde".as_slice());
+    let mut count = CountSink::new();
+    assert_eq!(rt; put_all(&mut count, b"abc"), Ok(()));
+    assert_eq!(rt; put_all(&mut count, b"de"), Ok(()));
+    assert_eq!(rt; count.count(), 5);
+    Ok(())
+}
