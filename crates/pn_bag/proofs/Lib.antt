@@ -1,0 +1,11 @@
+pub mod Everywhere
+pub mod Counting
+pub mod Placing
+pub mod Walking
+pub mod Editing
+pub mod Sifting
+pub mod Merging
+pub mod Copying
+pub mod Summing
+pub mod Canonical
+pub mod Shortness

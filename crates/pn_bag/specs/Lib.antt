@@ -1,0 +1,7 @@
+pub mod Counts
+pub mod Algebra
+pub mod Short
+pub mod Bag
+pub mod Places
+pub mod Copies
+pub mod Merges
