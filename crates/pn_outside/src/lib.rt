@@ -13,7 +13,7 @@ mod traits;
 pub use memory_input::MemorySource;
 pub use memory_output::MemorySink;
 pub use plain::{CountSink, PlainSource};
-pub use put::put_all;
+pub use put::{put_all, put_text};
 pub use streams::{StdSink, StdSource};
 pub use traits::{Failed, Sink, Source};
 

@@ -14,3 +14,11 @@ pub fn put_all<K: Sink>(sink: &mut K, bytes: &[u8]) -> Result<(), Failed>
     }
     Ok(())
 }
+
+/// Writes a text. After `Failed` a front of it is out. Takes no memory.
+pub fn put_text<K: Sink>(sink: &mut K, text: &str) -> Result<(), Failed>
+    ensures puts { Puts K.taken K.number result sink.old sink.new text.now }
+    ensures cause { HasCause (K.faults sink.old) (K.faults sink.new) result }
+{
+    put_all(sink, text.as_bytes())
+}

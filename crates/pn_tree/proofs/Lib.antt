@@ -1,0 +1,10 @@
+pub mod ElementLemmas
+pub mod TreeLemmas
+pub mod EscapeLemmas
+pub mod PutLemmas
+pub mod BuildLemmas
+pub mod StackLemmas
+pub mod TextLemmas
+pub mod DepthLemmas
+pub mod OpenLemmas
+pub mod KeptLemmas

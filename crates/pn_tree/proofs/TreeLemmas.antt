@@ -1,0 +1,92 @@
+-- What holds of the parts of an element that a tree may have.
+use Rattle.std.proofs.Common.{◌≡◌, ℕ, zero, suc, ◌<◌, ◌≤◌, Bool, true, false, ◌&&◌, List, [], ◌∷◌, length, get_or, refl, sym, ap, ◌∙◌, arith}
+use Rattle.std.specs.List.{list_all}
+use Rattle.std.proofs.lemmas.Bool.{false≢true}
+use Rattle.pn_tree.specs.Characters.{is_name}
+use Rattle.pn_tree.specs.Elements.{are_attrs, are_apart, is_kid, is_kid_layer, is_element, IsTree}
+use Rattle.pn_tree.specs.declared.element.Element.{Element}
+use Rattle.pn_tree.specs.declared.element.Child.{Child}
+use Rattle.pn_tree.specs.declared.element.Child.TheOpen as layer
+use Rattle.pn_tree.specs.declared.element.Child.TheVariants as children
+use Rattle.pn_tree.specs.declared.element.Child.TheViews.{out-Child}
+use Rattle.pn_tree.proofs.ElementLemmas.{is_kid-element}
+
+pub and_left : (a b : Bool) → (a && b) ≡ true → a ≡ true
+and_left true b h = refl
+and_left false b h = h
+
+pub and_right : (a b : Bool) → (a && b) ≡ true → b ≡ true
+and_right true b h = h
+and_right false b h = absurd (false≢true h)
+
+pub and_both : (a b : Bool) → a ≡ true → b ≡ true → (a && b) ≡ true
+and_both true b p q = q
+and_both false b p q = p
+
+pub list_all_each : {X : Type 0} (p q : X → Bool) → ((x : X) → p x ≡ true → q x ≡ true) → (xs : List X) → list_all p xs ≡ true → list_all q xs ≡ true
+list_all_each p q f [] h = refl
+list_all_each p q f (x ∷ xs) h = and_both (q x) (list_all q xs) (f x (and_left (p x) (list_all p xs) h)) (list_all_each p q f xs (and_right (p x) (list_all p xs) h))
+
+pub list_all_get : {X : Type 0} (p : X → Bool) (xs : List X) (i : ℕ) (d : X) → i < length xs → list_all p xs ≡ true → p (get_or xs i d) ≡ true
+list_all_get p [] i d lt h = absurd (omega arith)
+list_all_get p (x ∷ xs) zero d lt h = and_left (p x) (list_all p xs) h
+list_all_get p (x ∷ xs) (suc i) d lt h = list_all_get p xs i d (omega arith) (and_right (p x) (list_all p xs) h)
+
+-- what an element of at most `suc levels` levels has
+pub record Parts (levels : ℕ) (e : Element) : Type 0 where
+  pub name : is_name e.name ≡ true
+  pub attrs : are_attrs e.attrs ≡ true
+  pub apart : are_apart e.kids ≡ true
+  pub kids : list_all (is_kid (is_element levels)) e.kids ≡ true
+
+pub parts_of : (levels : ℕ) (e : Element) → is_element (suc levels) e ≡ true → Parts levels e
+unfolding is_element
+parts_of levels e h =
+    let k = list_all (is_kid (is_element levels)) e.kids in
+    let rest = and_right (is_name e.name) (are_attrs e.attrs && (are_apart e.kids && k)) h in
+    let last = and_right (are_attrs e.attrs) (are_apart e.kids && k) rest in
+    record {
+      name = and_left (is_name e.name) (are_attrs e.attrs && (are_apart e.kids && k)) h;
+      attrs = and_left (are_attrs e.attrs) (are_apart e.kids && k) rest;
+      apart = and_left (are_apart e.kids) k last;
+      kids = and_right (are_apart e.kids) k last;
+    }
+
+pub of_parts : (levels : ℕ) (e : Element) → Parts levels e → is_element (suc levels) e ≡ true
+unfolding is_element
+of_parts levels e p =
+    let k = list_all (is_kid (is_element levels)) e.kids in
+    and_both (is_name e.name) (are_attrs e.attrs && (are_apart e.kids && k)) p.name
+    (and_both (are_attrs e.attrs) (are_apart e.kids && k) p.attrs (and_both (are_apart e.kids) k p.apart p.kids))
+
+-- no element has no level
+pub not_element-zero : (e : Element) → is_element zero e ≡ true → ⊥
+unfolding is_element
+not_element-zero e h = false≢true h
+
+layer_each : (p q : Element → Bool) → ((e : Element) → p e ≡ true → q e ≡ true) → (k : layer.Child-F Child Element) → is_kid_layer p k ≡ true → is_kid_layer q k ≡ true
+layer_each p q f (layer.Element e) h = f e h
+layer_each p q f (layer.Text t) h = h
+
+-- more levels are allowed too
+pub is_element_more : (m n : ℕ) (e : Element) → m ≤ n → is_element m e ≡ true → is_element n e ≡ true
+is_element_more zero n e le h = absurd (not_element-zero e h)
+is_element_more (suc m) zero e le h = absurd (omega arith)
+is_element_more (suc m) (suc n) e le h =
+    let p = parts_of m e h in
+    of_parts n e (record {
+      name = p.name;
+      attrs = p.attrs;
+      apart = p.apart;
+      kids = list_all_each (is_kid (is_element m)) (is_kid (is_element n))
+          (λ (k : Child). layer_each (is_element m) (is_element n) (λ (x : Element). is_element_more m n x (omega arith)) (out-Child k)) e.kids p.kids;
+    })
+
+-- an element among the kids has a level less
+pub kid_is_element : (levels i : ℕ) (e k : Element) (d : Child) → i < length e.kids → children.Element k ≡ get_or e.kids i d → is_element (suc levels) e ≡ true → is_element levels k ≡ true
+kid_is_element levels i e k d lt is h =
+    sym (is_kid-element (is_element levels) k) ∙ ap (is_kid (is_element levels)) is
+    ∙ list_all_get (is_kid (is_element levels)) e.kids i d lt (parts_of levels e h).kids
+
+pub kid_is_tree : (i : ℕ) (e k : Element) (d : Child) → i < length e.kids → children.Element k ≡ get_or e.kids i d → IsTree e → IsTree k
+kid_is_tree i e k d lt is h = is_element_more 255 256 k (omega arith) (kid_is_element 255 i e k d lt is h)

@@ -1,0 +1,14 @@
+use Rattle.std.proofs.Common.{◌≤◌, take}
+use Rattle.std.specs.List.{flat_map}
+use Rattle.pn_outside.specs.Taking.{Takes}
+use Rattle.pn_tree.specs.Places.{escape_in}
+use Rattle.pn_tree.proofs.EscapeLemmas.{IsRun}
+use Rattle.pn_tree.proofs.put.put_escaped.Given as goal
+
+abbrev pub invariant-loop-at : goal.invariant-loop-at
+invariant-loop-at g l = record {
+  within : l.start ≤ l.at;
+  takes : Takes g.K.Sink.taken g.K.Sink.number l.initial.sink l.sink (flat_map (escape_in l.place) (take l.start l.bytes));
+  plain : IsRun (escape_in l.place) l.bytes l.start l.at;
+  later : g.K.Sink.faults l.initial.sink ≤ g.K.Sink.faults l.sink;
+}

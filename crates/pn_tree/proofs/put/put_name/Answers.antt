@@ -1,0 +1,12 @@
+use Rattle.pn_outside.proofs.TakingLemmas.{puts_then, puts_stop}
+use Rattle.pn_tree.proofs.put.put_name.Goals as goal
+
+pub returns-in_err-put_text-2-clause-puts : goal.returns-in_err-put_text-2-clause-puts
+returns-in_err-put_text-2-clause-puts g c =
+    let r = c.from_residual-in_err-put_text-2.result in
+    puts_then _ _ _ _ _ r c.in_ok-put_text.ensures.puts.all (puts_stop _ _ _ _ _ r c.from_residual-in_err-put_text-2.ensures.0 c.in_err-put_text-2.ensures.puts.front)
+
+pub returns-clause-puts : goal.returns-clause-puts
+returns-clause-puts g c =
+    puts_then _ _ _ _ _ c.put_text-3.result c.in_ok-put_text.ensures.puts.all
+    (puts_then _ _ _ _ _ c.put_text-3.result c.in_ok-put_text-2.ensures.puts.all c.put_text-3.ensures.puts)

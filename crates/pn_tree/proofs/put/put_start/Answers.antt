@@ -1,0 +1,15 @@
+use Rattle.std.proofs.Common.{◌∷◌, ◌++◌, ap, ◌∙◌}
+use Rattle.std.specs.List.{flat_map}
+use Rattle.pn_outside.proofs.TakingLemmas.{puts_then}
+use Rattle.pn_tree.specs.Canonical.{attr_text}
+use Rattle.pn_tree.proofs.PutLemmas.{start_pieces, puts_as}
+use Rattle.pn_tree.proofs.put.put_start.Goals as goal
+
+pub returns-clause-puts : goal.returns-clause-puts
+returns-clause-puts g c =
+    let e = c.args.element.now in
+    let r = c.put_attrs.result in
+    puts_as _ _ _ _ r
+    (start_pieces c.as_str.result.now (flat_map attr_text c.as_slice.result.now) ∙ ap (λ l. 60 ∷ (l ++ flat_map attr_text c.as_slice.result.now)) c.as_str.ensures
+    ∙ ap (λ l. 60 ∷ (e.name ++ flat_map attr_text l)) c.as_slice.ensures)
+    (puts_then _ _ _ _ _ r c.in_ok-put_name.ensures.puts.all c.put_attrs.ensures.puts)

@@ -1,0 +1,9 @@
+pub mod Characters
+pub mod Elements
+pub mod Depth
+pub mod Building
+pub mod Frames
+pub mod Canonical
+pub mod Views
+pub mod Places
+pub mod Endings

@@ -1,0 +1,142 @@
+use crate::frame::Frame;
+use crate::stack::{Ended, close, enclose};
+use crate::{Child, Element, Tree, View};
+use std::alloc::{AllocError, Global};
+use std::marker::Model;
+
+/// Makes a tree from its parts, given in their order. Contracts see the root, once it is ended,
+/// and the elements that are begun and not ended, the innermost first.
+///
+/// Each call that may want memory answers `AllocError` for nothing else. After that a builder may
+/// only be dropped.
+#[derive(Debug, Drop)]
+pub struct Builder {
+    alloc: Global,
+    root: Option<Element>,
+    inner: Option<Frame>,
+    outer: Vec<Frame>,
+}
+
+impl Model for Builder {
+    ghost use Rattle.pn_tree.specs.Building.{Building};
+    ghost use Rattle.pn_tree.specs.contracts.element.Element as e;
+    ghost use Rattle.std.specs.Coded.{codes};
+
+    ghost Value = { Building };
+
+    ghost coded = { Prim.hlevel (codes, e.the_row.coded) };
+
+    ghost use Rattle.pn_tree.specs.Frames.{all_open, IsKept};
+
+    ghost view = { λ b. record { root = b.root; open_elements = all_open b.inner b.outer.items } };
+
+    ghost invariant = { λ b. IsKept b.root b.inner b.outer.items };
+}
+
+impl Builder {
+    ghost use Rattle.std.specs.Prelude.{◌≡◌, ◌+◌, ◌<◌, ◌≤◌, [], length, true, None, Some, OnOk, IsSome, IfSome};
+    ghost use Rattle.pn_tree.specs.Characters.{is_name, is_text};
+    ghost use Rattle.pn_tree.specs.Elements.{attr_value};
+    ghost use Rattle.pn_tree.specs.Building.{nothing_built, innermost, begun, at_innermost, with_attr, with_text, with_kid, ended};
+    ghost use Rattle.pn_tree.specs.Depth.{depth_of};
+    ghost use Rattle.pn_tree.specs.Views.{element_of};
+    ghost use Rattle.pn_tree.specs.declared.element.Child.TheVariants as children;
+
+    /// A builder that was given nothing yet. Takes no memory.
+    pub fn new(alloc: Global) -> Builder
+        ensures { result ≡ nothing_built }
+    {
+        Builder {
+            alloc,
+            root: None,
+            inner: None,
+            outer: Vec::new(alloc),
+        }
+    }
+
+    /// Begins an element whose start tag has the offset `at`: the root, or a kid of the innermost
+    /// element that is open.
+    pub fn begin(&mut self, name: &str, at: u64) -> Result<(), AllocError>
+        requires name { is_name name.now ≡ true }
+        requires one_root { self.old.root ≡ None }
+        requires depth { length self.old.open_elements < 256 }
+        ensures { OnOk result (self.new ≡ begun name.now at self.old) }
+    {
+        let frame = Frame::begin(self.alloc, name, at)?;
+        enclose(&mut self.outer, self.inner.take())?;
+        self.inner = Some(frame);
+        Ok(())
+    }
+
+    /// Gives the innermost open element an attribute, behind those that it has.
+    pub fn attr(&mut self, name: &str, value: &str) -> Result<(), AllocError>
+        requires name { is_name name.now ≡ true }
+        requires value { is_text value.now ≡ true }
+        requires is_open { IsSome (innermost self.old) }
+        requires before_kids { IfSome (innermost self.old) (λ e. e.kids ≡ []) }
+        requires is_new { IfSome (innermost self.old) (λ e. attr_value name.now e.attrs ≡ None) }
+        ensures { OnOk result (self.new ≡ at_innermost (with_attr name.now value.now) self.old) }
+    {
+        if let Some(frame) = self.inner.take() {
+            self.inner = Some(frame.with_attr(self.alloc, name, value)?);
+        }
+        Ok(())
+    }
+
+    /// Gives the innermost open element a text. It is joined to a text before it, and an empty
+    /// one changes nothing.
+    pub fn text(&mut self, text: &str) -> Result<(), AllocError>
+        requires text { is_text text.now ≡ true }
+        requires is_open { IsSome (innermost self.old) }
+        ensures { OnOk result (self.new ≡ at_innermost (with_text text.now) self.old) }
+    {
+        if let Some(frame) = self.inner.take() {
+            self.inner = Some(frame.with_text(self.alloc, text)?);
+        }
+        Ok(())
+    }
+
+    /// Gives the innermost open element a kid that equals `part`, offsets and all.
+    pub fn place(&mut self, part: View<'_>) -> Result<(), AllocError>
+        requires is_open { IsSome (innermost self.old) }
+        requires depth { length self.old.open_elements + depth_of (element_of part) ≤ 256 }
+        ensures { OnOk result
+            (self.new ≡ at_innermost (with_kid (children.Element (element_of part.entry))) self.old) }
+    {
+        let element = part.copy_element(self.alloc)?;
+        if let Some(frame) = self.inner.take() {
+            self.inner = Some(frame.with_kid(Child::Element(element))?);
+        }
+        Ok(())
+    }
+
+    /// Ends the innermost open element. Takes no memory.
+    pub fn end(&mut self)
+        requires { IsSome (innermost self.old) }
+        ensures { self.new ≡ ended self.old }
+    {
+        if let Some(frame) = self.inner.take() {
+            match close(&mut self.outer, frame) {
+                Ended::Root(root) => self.root = Some(root),
+                Ended::Within(parent) => self.inner = Some(parent),
+            }
+        }
+    }
+
+    /// The tree, once its root is ended. Takes no memory.
+    pub fn finish(self) -> Tree
+        requires { IsSome self.root }
+        ensures { self.root ≡ Some result }
+    {
+        let Builder {
+            alloc: _,
+            root,
+            inner: _,
+            outer: _,
+        } = self;
+        match root {
+            Some(root) => Tree::new(root),
+            None => unreachable!(),
+        }
+    }
+}

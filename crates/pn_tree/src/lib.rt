@@ -1,0 +1,21 @@
+//! Element trees and their canonical text.
+#![tactic(auto)]
+
+mod builder;
+mod copy;
+mod element;
+mod frame;
+mod put;
+mod stack;
+mod texts;
+mod tree;
+mod view;
+
+pub use builder::Builder;
+use element::{Attr, Child, Element};
+pub use put::{put_tree, text_length};
+pub use tree::Tree;
+pub use view::{Kid, View};
+
+#[cfg(test)]
+mod tests;
