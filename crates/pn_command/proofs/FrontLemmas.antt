@@ -1,5 +1,5 @@
 -- How a text splits into the part in front of it and the rest.
-use Rattle.std.proofs.Common.{◌≡◌, ◌≢◌, ℕ, zero, suc, ◌+◌, ◌-◌, ◌%◌, ◌<◌, ◌≤◌, List, [], ◌∷◌, ◌++◌, Bool, true, false, ◌&&◌, not, ◌==◌, length, take, drop, get_or, codes, decimal, refl, sym, ap, ◌∙◌, subst, append_assoc, arith, Option, None, Some, MatchOption}
+use Rattle.std.proofs.Common.{IsTrue, ◌≡◌, ◌≢◌, ℕ, zero, suc, ◌+◌, ◌-◌, ◌%◌, ◌<◌, ◌≤◌, List, [], ◌∷◌, ◌++◌, Bool, true, false, ◌&&◌, not, ◌==◌, length, take, drop, get_or, codes, decimal, refl, sym, ap, ◌∙◌, subst, append_assoc, arith, Option, None, Some, MatchOption}
 use Rattle.std.proofs.lemmas.Bool.Decides.{nat_tests}
 use Rattle.std.proofs.lemmas.Grind.{common_steps}
 use Rattle.std.specs.List.{list_all}
@@ -7,7 +7,7 @@ use Rattle.std.specs.Borrow.{Bor}
 use Rattle.std.specs.Str.{IsAscii, bytes_eq}
 use Rattle.std.proofs.lemmas.Slice.Eq.{bytes_eq-Decides}
 use Rattle.pn_command.specs.Front.{IsFront, HasNoFront, Lacks, Strips, IsSpelled}
-use Rattle.pn_command.specs.Plain.{is_id_byte, is_id, IsId, IsCount, SpellsNumber, IsMarking, marking_text}
+use Rattle.pn_command.specs.Plain.{is_id_byte, is_id, IsId, IsCount, SpellsNumber, IsLabel, label_text}
 use Rattle.std.proofs.Math.Nat.{mod-lt}
 use Rattle.std.proofs.lemmas.Str.Ascii.{IsAscii-nil, IsAscii-cons}
 use Rattle.std.proofs.lemmas.Fmt.{decimal_by_steps, decimal_injective}
@@ -184,29 +184,39 @@ number_spelled digits n h = record {
 pub first_differs : (x y : ℕ) (xs ys : List ℕ) → x ≢ y → x ∷ xs ≡ y ∷ ys → ⊥
 first_differs x y xs ys differ e = differ (ap (λ (l : List ℕ). get_or l 0 x) e)
 
--- a marking that is not written
-pub marking_none : (input rest : List ℕ) → input ≡ codes "/>" ++ rest → IsFront IsMarking marking_text input None rest
-marking_none input rest e = record { good = tt; spelled = e; only = only }
-  where
-    only : (other : Option ℕ) (after : List ℕ) → IsMarking other → input ≡ marking_text other ++ after → (other ≡ None) × (after ≡ rest)
-    only None after is h = (refl, append_cancels (codes "/>") after rest (sym h ∙ e))
-    only (Some n) after is h = absurd (first_differs 47 62 (62 ∷ rest) _ (omega arith) (sym e ∙ h))
+-- what begins with an angle bracket does not begin with a slash
+angle_is_no_slash : (lead more rest : List ℕ) → get_or lead 0 0 ≡ 62 → 47 ∷ rest ≡ lead ++ more → ⊥
+angle_is_no_slash [] more rest angle e = absurd (omega arith)
+angle_is_no_slash (x ∷ lead) more rest angle e = let first : 47 ≡ x = ap (λ (l : List ℕ). get_or l 0 47) e in absurd (omega arith)
 
--- a marking that is written
-module _ (input : List ℕ) (none : (rest : List ℕ) → input ≢ codes "/>" ++ rest) where
-  abbrev number_text : ℕ → List ℕ
-  number_text n = codes "><initialMarking><text>" ++ (decimal n ++ codes "</text></initialMarking></place>")
-
-  pub marking_missing : HasNoFront IsCount number_text input → HasNoFront IsMarking marking_text input
-  marking_missing without None after is e = none after e
-  marking_missing without (Some n) after is e = without n after is e
-
-  pub marking_written : (n : ℕ) (rest : List ℕ) → IsFront IsCount number_text input n rest → IsFront IsMarking marking_text input (Some n) rest
-  marking_written n rest front = record { good = front.good; spelled = front.spelled; only = only }
+module _ (lead tail : List ℕ) (least : ℕ) where
+  -- a label that is not written
+  pub label_none : (input rest : List ℕ) → get_or lead 0 0 ≡ 62 → input ≡ codes "/>" ++ rest → IsFront (IsLabel least) (label_text lead tail) input None rest
+  label_none input rest angle e = record { good = tt; spelled = e; only = only }
     where
-      only : (other : Option ℕ) (after : List ℕ) → IsMarking other → input ≡ marking_text other ++ after → (other ≡ Some n) × (after ≡ rest)
-      only None after is h = absurd (none after h)
-      only (Some m) after is h = let same = front.only m after is h in (ap Some same.0, same.1)
+      only : (other : Option ℕ) (after : List ℕ) → IsLabel least other → input ≡ label_text lead tail other ++ after → (other ≡ None) × (after ≡ rest)
+      only None after is h = (refl, append_cancels (codes "/>") after rest (sym h ∙ e))
+      only (Some n) after is h = absurd (angle_is_no_slash lead ((decimal n ++ tail) ++ after) (62 ∷ rest) angle (sym e ∙ h ∙ append_assoc lead (decimal n ++ tail) after))
+
+  -- a label that is written
+  module _ (input : List ℕ) (none : (rest : List ℕ) → input ≢ codes "/>" ++ rest) where
+    abbrev number_text : ℕ → List ℕ
+    number_text n = lead ++ (decimal n ++ tail)
+
+    pub label_missing : HasNoFront IsCount number_text input → HasNoFront (IsLabel least) (label_text lead tail) input
+    label_missing without None after is e = none after e
+    label_missing without (Some n) after is e = without n after is.1 e
+
+    pub label_small : (n : ℕ) (rest : List ℕ) → IsFront IsCount number_text input n rest → n < least → HasNoFront (IsLabel least) (label_text lead tail) input
+    label_small n rest front small None after is e = none after e
+    label_small n rest front small (Some m) after is e = let same = (front.only m after is.1 e).0 in let large = is.0 in absurd (omega arith)
+
+    pub label_written : (n : ℕ) (rest : List ℕ) → IsFront IsCount number_text input n rest → least ≤ n → IsFront (IsLabel least) (label_text lead tail) input (Some n) rest
+    label_written n rest front large = record { good = (large, front.good); spelled = front.spelled; only = only }
+      where
+        only : (other : Option ℕ) (after : List ℕ) → IsLabel least other → input ≡ label_text lead tail other ++ after → (other ≡ Some n) × (after ≡ rest)
+        only None after is h = absurd (none after h)
+        only (Some m) after is h = let same = front.only m after is.1 h in (ap Some same.0, same.1)
 
 -- each byte of an id is ASCII
 id_byte_is_ascii : (b : ℕ) → is_id_byte b ≡ true → b < 128
@@ -234,3 +244,7 @@ equal xs ys r h is = (bytes_eq-Decides xs ys).0 (not_false (bytes_eq xs ys) (sym
     not_false : (b : Bool) → not b ≡ false → b ≡ true
     not_false true e = refl
     not_false false e = cc
+
+-- what a test that failed says
+pub fails_if : {P : Type 0} (b : Bool) → (P → IsTrue b) → b ≡ false → P → ⊥
+fails_if b h none p = let holds : b ≡ true = h p in cc

@@ -1,9 +1,11 @@
 -- The answer that is due for the words and the bytes of the input.
-use Rattle.std.specs.Prelude.{◌≡◌, ◌≤◌, ℕ, List, [], length, Option, MatchOption}
+use Rattle.std.specs.Prelude.{◌≡◌, ◌<◌, ◌≤◌, ℕ, List, [], length, codes, Option, MatchOption}
 use Rattle.pn_outside.specs.declared.limits.TheConstants.{BYTES}
 use Rattle.pn_outside.specs.Cause.{Rose}
 use Rattle.pn_outside.specs.Taking.{Takes, TakesFront}
+use Rattle.pn_tree.specs.Canonical.{canonical_text}
 use Rattle.pn_command.specs.declared.words.Asked.{Asked}
+use Rattle.pn_command.specs.declared.words.Asked.TheVariants.{Check, Flatten, Step, Modes, Unfold, Trial}
 use Rattle.pn_command.specs.declared.status.Status.{Status}
 use Rattle.pn_command.specs.declared.status.Status.TheVariants as status
 use Rattle.pn_command.specs.declared.due.Due.{Due}
@@ -11,7 +13,8 @@ use Rattle.pn_command.specs.declared.due.Due.TheVariants as due
 use Rattle.pn_command.specs.Words.{asked_of}
 use Rattle.pn_command.specs.Plain.{PlainNet}
 use Rattle.pn_command.specs.Links.{Spells}
-use Rattle.pn_command.specs.Lines.{usage_line, not_yet_line, summary_of, summary_line}
+use Rattle.pn_command.specs.Lines.{usage_line, not_yet_line, limit_line, summary_of, summary_line}
+use Rattle.pn_command.specs.NetTree.{tree_of_net}
 
 -- how a call ends, and what it writes
 pub record Answer : Type 0 where
@@ -29,19 +32,52 @@ line_with s line = record { status = s; out = []; err = line }
 
 abbrev pub answer_of : Due → Answer
 answer_of due.Misused = line_with status.Usage usage_line
+answer_of due.TooLong = line_with status.Limit (limit_line (codes "input"))
 answer_of due.NotYet = line_with status.Refused not_yet_line
+answer_of due.OutputTooLong = line_with status.Limit (limit_line (codes "output"))
 answer_of (due.Summary s) = done_with (summary_line s)
+answer_of (due.Text t) = done_with (canonical_text t)
 
 -- the input is within its limit and spells this net
 pub record IsInput (n : PlainNet) (bytes : List ℕ) : Type 0 where
   pub within : length bytes ≤ BYTES
   pub spells : Spells n bytes
 
--- what is due for a command: its own answer where the input spells a plain net, else `not yet`
+-- what `check` answers for a plain net: its summary
+abbrev pub AnswersCheck : PlainNet → Due → Type 0
+AnswersCheck n due.Misused = ⊥
+AnswersCheck n due.TooLong = ⊥
+AnswersCheck n due.NotYet = ⊥
+AnswersCheck n due.OutputTooLong = ⊥
+AnswersCheck n (due.Summary s) = s ≡ summary_of n
+AnswersCheck n (due.Text t) = ⊥
+
+-- what `flatten` answers for a plain net: the canonical text of its tree, where that is not too long
+abbrev pub AnswersFlatten : PlainNet → Due → Type 0
+AnswersFlatten n due.Misused = ⊥
+AnswersFlatten n due.TooLong = ⊥
+AnswersFlatten n due.NotYet = ⊥
+AnswersFlatten n due.OutputTooLong = BYTES < length (canonical_text (tree_of_net n))
+AnswersFlatten n (due.Summary s) = ⊥
+AnswersFlatten n (due.Text t) = (t ≡ tree_of_net n) × (length (canonical_text t) ≤ BYTES)
+
+-- what a command answers for a plain net
+abbrev pub AnswersNet : Asked → PlainNet → Due → Type 0
+AnswersNet Check n d = AnswersCheck n d
+AnswersNet Flatten n d = AnswersFlatten n d
+AnswersNet Step n d = ⊥
+AnswersNet Modes n d = ⊥
+AnswersNet Unfold n d = ⊥
+AnswersNet (Trial k) n d = ⊥
+
+-- what is due for a command: a line where the input is too long or spells no plain net, else its answer for the net
 abbrev pub IsDueFor : Asked → List ℕ → Due → Type 0
 IsDueFor asked bytes due.Misused = ⊥
-IsDueFor asked bytes due.NotYet = (n : PlainNet) → IsInput n bytes → ⊥
-IsDueFor asked bytes (due.Summary s) = (n : PlainNet) × IsInput n bytes × (s ≡ summary_of n)
+IsDueFor asked bytes due.TooLong = BYTES < length bytes
+IsDueFor asked bytes due.NotYet = (length bytes ≤ BYTES) × ((n : PlainNet) → Spells n bytes → ⊥)
+IsDueFor asked bytes due.OutputTooLong = (n : PlainNet) × IsInput n bytes × AnswersNet asked n due.OutputTooLong
+IsDueFor asked bytes (due.Summary s) = (n : PlainNet) × IsInput n bytes × AnswersNet asked n (due.Summary s)
+IsDueFor asked bytes (due.Text t) = (n : PlainNet) × IsInput n bytes × AnswersNet asked n (due.Text t)
 
 -- what is due for the words and the bytes: the usage line where the words ask for nothing
 abbrev pub IsDue : List (List ℕ) → List ℕ → Due → Type 0

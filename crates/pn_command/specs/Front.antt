@@ -39,10 +39,16 @@ pub record IsSpelled {A : Type 0} (Is : A → Type 0) (text : A → List ℕ) (i
   pub spelled : input ≡ text value
   pub only : (other : A) → Is other → input ≡ text other → other ≡ value
 
--- the value that spells the whole input, or that none does
-abbrev pub ReadsWhole : {A : Type 0} → (A → Type 0) → (A → List ℕ) → List ℕ → Option A → Type 0
-ReadsWhole {A} Is text input None = (other : A) → Is other → input ≢ text other
-ReadsWhole Is text input (Some value) = IsSpelled Is text input value
+-- the whole input spells one value, and no other
+pub record IsRead {A : Type 0} (Is : A → Type 0) (Spells : A → List ℕ → Type 0) (input : List ℕ) (value : A) : Type 0 where
+  pub good : Is value
+  pub spelled : Spells value input
+  pub only : (other : A) → Is other → Spells other input → other ≡ value
+
+-- the value that the whole input spells, or that it spells none
+abbrev pub ReadsWhole : {A : Type 0} → (A → Type 0) → (A → List ℕ → Type 0) → List ℕ → Option A → Type 0
+ReadsWhole {A} Is Spells input None = (other : A) → Is other → Spells other input → ⊥
+ReadsWhole Is Spells input (Some value) = IsRead Is Spells input value
 
 -- all parts of this kind that stand in front of the input, one after the other; no other list of them ends before something else
 pub record ReadsAll {A : Type 0} (Is : A → Type 0) (text : A → List ℕ) (input : List ℕ) (parts : List A) (rest : List ℕ) : Type 0 where

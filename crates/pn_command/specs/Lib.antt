@@ -2,6 +2,8 @@ pub mod Front
 pub mod Plain
 pub mod Links
 pub mod Index
+pub mod NetTree
+pub mod Building
 pub mod Words
 pub mod Lines
 pub mod Answer

@@ -1,14 +1,23 @@
 -- The lines that the program writes.
 use Rattle.std.specs.Prelude.{ℕ, List, ◌++◌, codes, decimal, length, sum_by, unwrap_or}
+use Rattle.pn_outside.specs.declared.limits.TheConstants.{BYTES}
 use Rattle.pn_command.specs.declared.plain.net.Place.{Place}
 use Rattle.pn_command.specs.declared.lines.Summary.{Summary}
 use Rattle.pn_command.specs.Plain.{Page, PlainNet}
+
+-- a label and the number behind it
+abbrev pub count_text : List ℕ → ℕ → List ℕ
+count_text label n = label ++ decimal n
 
 abbrev pub usage_line : List ℕ
 usage_line = codes "pnml: usage: check, flatten, step MODE (one or more), modes T, unfold, trial N\n"
 
 abbrev pub not_yet_line : List ℕ
 not_yet_line = codes "pnml: not yet\n"
+
+-- the line for an input or an output that is longer than it may be
+abbrev pub limit_line : List ℕ → List ℕ
+limit_line what = count_text (codes "pnml: limit: " ++ (what ++ codes " longer than ")) BYTES ++ codes " bytes\n"
 
 -- the tokens of a place at first: none where no marking is written
 abbrev pub tokens_of : Place → ℕ
@@ -25,10 +34,6 @@ summary_of_page p = record {
 
 abbrev pub summary_of : PlainNet → Summary
 summary_of n = summary_of_page n.page
-
--- a label and the number behind it
-abbrev pub count_text : List ℕ → ℕ → List ℕ
-count_text label n = label ++ decimal n
 
 abbrev pub summary_line : Summary → List ℕ
 summary_line s =

@@ -6,7 +6,7 @@ use Rattle.pn_command.specs.declared.plain.net.Role.{Role}
 use Rattle.pn_command.specs.declared.plain.net.Role.TheVariants as role
 use Rattle.pn_command.specs.declared.plain.net.Place.{Place}
 use Rattle.pn_command.specs.declared.plain.net.Arc.{Arc}
-use Rattle.pn_command.specs.Plain.{Page, PlainNet, IsWritten, net_text}
+use Rattle.pn_command.specs.Plain.{Page, PlainNet, IsWritten, SpellsNet}
 
 -- what each id names
 abbrev pub place_name : Place → List ℕ × Role
@@ -64,4 +64,4 @@ pub record IsPlain (n : PlainNet) : Type 0 where
 -- the bytes spell the plain net
 pub record Spells (n : PlainNet) (bytes : List ℕ) : Type 0 where
   pub plain : IsPlain n
-  pub text : bytes ≡ net_text n
+  pub text : SpellsNet n bytes

@@ -3,27 +3,33 @@
 ghost use Rattle.std.specs.Prelude.{◌≡◌, ◌≤◌, IfOk, IfSome, Err, Ok, None, map, length, string_bytes, sum_by};
 ghost use Rattle.std.specs.Io.KnownBytes.{IsAtEnd};
 ghost use Rattle.pn_outside.specs.Cause.{Rose};
-ghost use Rattle.pn_command.specs.Answer.{IsDueFor, IsTheDue};
+ghost use Rattle.pn_command.specs.Answer.{AnswersFlatten, AnswersNet, IsDueFor, IsTheDue, answer_of};
+ghost use Rattle.pn_command.specs.Links.{IsPlain};
 ghost use Rattle.pn_command.specs.Lines.{summary_of_page, tokens_of};
-ghost use Rattle.pn_command.specs.Words.{asked_of};
+ghost use Rattle.pn_command.specs.Words.{asked_of, IsBuilt};
 ghost use Rattle.pn_command.specs.declared.due.Due.{Due};
-ghost use Rattle.pn_command.specs.declared.lines.Summary.{Summary};
 
+use crate::Status;
 use crate::input::{Stop, read_all};
 use crate::lines::Summary;
-use crate::plain::net::{Place, PlainPage};
+use crate::plain::net::{Place, PlainNet, PlainPage};
 use crate::plain::read::plain_net;
+use crate::plain::tree::net_tree;
 use crate::words::{Asked, asks};
 use pn_outside::Source;
 use pn_outside::limits::BYTES;
+use pn_tree::{Tree, text_length};
 use std::alloc::{AllocError, Global};
 
 /// The answer that is due, before it is written.
-#[derive(Clone, Copy, Debug, PartialEq, Eq)]
+#[derive(Debug, Drop)]
 pub(crate) enum Due {
     Misused,
+    TooLong,
     NotYet,
+    OutputTooLong,
     Summary(Summary),
+    Text(Tree),
 }
 
 /// The sum of the places' initial tokens.
@@ -48,15 +54,41 @@ fn page_summary(page: &PlainPage) -> Summary
     }
 }
 
-/// What is due for `check` of an input within the limit.
-fn check(alloc: Global, bytes: &[u8]) -> Result<Due, AllocError>
-    requires { length bytes.now ≤ BYTES }
-    ensures due { IfOk result (IsDueFor Asked.Check bytes.now) }
-    ensures only { IfOk result (λ d. (other : Due) → IsDueFor Asked.Check bytes.now other → other ≡ d) }
+/// What `flatten` answers for a net.
+fn flattened(alloc: Global, net: &PlainNet) -> Result<Due, AllocError>
+    requires { IsPlain net.now }
+    ensures { IfOk result (AnswersFlatten net.now) }
+{
+    let tree = net_tree(alloc, net)?;
+    if text_length(&tree) > BYTES {
+        return Ok(Due::OutputTooLong);
+    }
+    Ok(Due::Text(tree))
+}
+
+/// What a command answers for a net.
+fn net_due(alloc: Global, asked: Asked, net: &PlainNet) -> Result<Due, AllocError>
+    requires is_built { IsBuilt asked }
+    requires is_plain { IsPlain net.now }
+    ensures { IfOk result (AnswersNet asked net.now) }
+{
+    match asked {
+        Asked::Check => Ok(Due::Summary(page_summary(&net.page))),
+        Asked::Flatten => flattened(alloc, net),
+        _ => unreachable!(),
+    }
+}
+
+/// What is due for a command and an input within the limit.
+fn document_due(alloc: Global, asked: Asked, bytes: &[u8]) -> Result<Due, AllocError>
+    requires is_built { IsBuilt asked }
+    requires within { length bytes.now ≤ BYTES }
+    ensures due { IfOk result (IsDueFor asked bytes.now) }
+    ensures only { IfOk result (λ d. (other : Due) → IsDueFor asked bytes.now other → other ≡ d) }
 {
     match plain_net(alloc, bytes)? {
         None => Ok(Due::NotYet),
-        Some(net) => Ok(Due::Summary(page_summary(&net.page))),
+        Some(net) => net_due(alloc, asked, &net),
     }
 }
 
@@ -68,19 +100,19 @@ pub(crate) fn decide<S: Source>(
 ) -> Result<Due, Stop>
     ensures due { IfOk result (λ d. IfSome (S.left source.old) (λ b. IsTheDue (map string_bytes words.now) b d)) }
     ensures misused { asked_of (map string_bytes words.now) ≡ None → (result ≡ Ok Due.Misused) × (source.new ≡ source.old) }
-    ensures asked { result ≡ Ok Due.Misused → asked_of (map string_bytes words.now) ≡ None }
-    ensures ended { (s : Summary) → result ≡ Ok (Due.Summary s) → IsAtEnd (S.left source.new) }
+    ensures asked { IfOk result (λ d. (answer_of d).status ≡ Status.Usage → asked_of (map string_bytes words.now) ≡ None) }
+    ensures ended { IfOk result (λ d. (answer_of d).status ≡ Status.Done → IsAtEnd (S.left source.new)) }
     ensures later { S.faults source.old ≤ S.faults source.new }
     ensures cause { result ≡ Err Stop.Fault → Rose (S.faults source.old) (S.faults source.new) }
 {
-    let Some(_) = asks(words) else {
+    let Some(asked) = asks(words) else {
         return Ok(Due::Misused);
     };
     let bytes = read_all(alloc, source)?;
     if bytes.len() as u64 > BYTES {
-        return Ok(Due::NotYet);
+        return Ok(Due::TooLong);
     }
-    match check(alloc, &bytes) {
+    match document_due(alloc, asked, &bytes) {
         Ok(due) => Ok(due),
         Err(_) => Err(Stop::Memory),
     }

@@ -3,6 +3,7 @@
 
 mod due;
 mod input;
+pub mod laws;
 mod lines;
 mod plain;
 mod status;

@@ -4,3 +4,4 @@ mod links;
 pub(crate) mod net;
 mod parts;
 pub(crate) mod read;
+pub(crate) mod tree;

@@ -1,11 +1,16 @@
+ghost use Rattle.std.specs.Prelude.{ℕ, List, Option, None};
+
 use super::*;
-use pn_outside::{MemorySink, MemorySource, PlainSource};
+use pn_outside::limits::BYTES;
+use pn_outside::{Failed, MemorySink, MemorySource, PlainSource, Source};
 use std::alloc::{AllocError, Global};
 use std::process::Abort;
 use std::test::Fail;
 
 const TRANSFER: &str =
     "<pnml xmlns=\"http://www.pnml.org/version-2009/grammar/pnml\"><net id=\"n\" type=\"http://www.pnml.org/version-2009/grammar/ptnet\"><page id=\"g\"><place id=\"a\"><initialMarking><text>3</text></initialMarking></place><place id=\"b\"/><transition id=\"t\"/><arc id=\"u\" source=\"a\" target=\"t\"/><arc id=\"v\" source=\"t\" target=\"b\"/></page></net></pnml>";
+
+const DECLARATION: &str = "<?xml version=\"1.0\" encoding=\"UTF-8\"?>\n";
 
 const USAGE: &str =
     "pnml: usage: check, flatten, step MODE (one or more), modes T, unfold, trial N\n";
@@ -114,6 +119,14 @@ fn what_is_not_plain_is_not_yet(rt: HostRuntime) -> Result<(), Fail> {
         ("</page>", "</page><page id=\"h\"></page>"),
         ("</pnml>", "</pnml> "),
         ("</pnml>", "</pnml></pnml>"),
+        ("</pnml>", "</pnml>\n\n"),
+        ("<pnml ", "\n<pnml "),
+        ("<pnml ", "<?xml version=\"1.0\" encoding=\"UTF-8\"?><pnml "),
+        (
+            "target=\"t\"/>",
+            "target=\"t\"><inscription><text>0</text></inscription></arc>",
+        ),
+        ("target=\"t\"/>", "target=\"t\"></arc>"),
     ] {
         let document = with(alloc, part, other)?;
         expect(
@@ -125,6 +138,136 @@ fn what_is_not_plain_is_not_yet(rt: HostRuntime) -> Result<(), Fail> {
             "",
             NOT_YET,
         )?;
+    }
+    Ok(())
+}
+
+#[test]
+fn flatten_writes_the_canonical_text(rt: HostRuntime) -> Result<(), Fail> {
+    let alloc = rt.alloc();
+    let mut text = String::from_str(alloc, DECLARATION)?;
+    text.push_str(TRANSFER)?;
+    text.push_str("\n")?;
+    assert_eq!(rt; text.len(), 373);
+    expect(
+        &rt,
+        alloc,
+        &["flatten"],
+        TRANSFER,
+        Status::Done,
+        text.as_str(),
+        "",
+    )?;
+    expect(
+        &rt,
+        alloc,
+        &["flatten"],
+        text.as_str(),
+        Status::Done,
+        text.as_str(),
+        "",
+    )?;
+    let line = "ptnet places 2 transitions 1 arcs 2 tokens 3\n";
+    expect(
+        &rt,
+        alloc,
+        &["check"],
+        text.as_str(),
+        Status::Done,
+        line,
+        "",
+    )?;
+    Ok(())
+}
+
+#[test]
+fn a_page_without_parts_is_an_empty_element(rt: HostRuntime) -> Result<(), Fail> {
+    let alloc = rt.alloc();
+    let (before, parts) = TRANSFER.split_once("</place>").unwrap_or((TRANSFER, ""));
+    assert!(rt; !parts.is_empty());
+    let (head, _) = before.split_once("><place").unwrap_or((before, ""));
+    let mut long = String::from_str(alloc, head)?;
+    long.push_str("></page></net></pnml>")?;
+    let mut short = String::from_str(alloc, DECLARATION)?;
+    short.push_str(head)?;
+    short.push_str("/></net></pnml>\n")?;
+    for document in [long.as_str(), short.as_str()] {
+        expect(
+            &rt,
+            alloc,
+            &["flatten"],
+            document,
+            Status::Done,
+            short.as_str(),
+            "",
+        )?;
+    }
+    Ok(())
+}
+
+#[test]
+fn an_inscription_is_kept(rt: HostRuntime) -> Result<(), Fail> {
+    let alloc = rt.alloc();
+    let inscribed = "target=\"t\"><inscription><text>2</text></inscription></arc>";
+    let document = with(alloc, "target=\"t\"/>", inscribed)?;
+    let line = "ptnet places 2 transitions 1 arcs 2 tokens 3\n";
+    expect(
+        &rt,
+        alloc,
+        &["check"],
+        document.as_str(),
+        Status::Done,
+        line,
+        "",
+    )?;
+    let mut text = String::from_str(alloc, DECLARATION)?;
+    text.push_str(document.as_str())?;
+    text.push_str("\n")?;
+    expect(
+        &rt,
+        alloc,
+        &["flatten"],
+        document.as_str(),
+        Status::Done,
+        text.as_str(),
+        "",
+    )?;
+    Ok(())
+}
+
+/// A source of so many spaces.
+#[derive(Drop)]
+struct Spaces {
+    left: u64,
+}
+
+impl Source for Spaces {
+    ghost left = { λ _. None };
+
+    ghost faults = { λ _. 0 };
+
+    fn read(&mut self, into: &mut [u8]) -> Result<usize, Failed> {
+        let size = self.left.min(into.len() as u64);
+        into[..size as usize].fill(b' ');
+        self.left -= size;
+        Ok(size as usize)
+    }
+}
+
+#[test]
+fn a_longer_input_passes_the_limit(rt: HostRuntime) -> Result<(), Fail> {
+    let alloc = rt.alloc();
+    for word in ["check", "flatten"] {
+        let mut words = Vec::new(alloc);
+        words.push(String::from_str(alloc, word)?)?;
+        let mut source = Spaces { left: BYTES + 1 };
+        let mut side = PlainSource::new(Vec::new(alloc));
+        let mut out = MemorySink::new(alloc, 0, Vec::new(alloc))?;
+        let mut err = MemorySink::new(alloc, 100, Vec::new(alloc))?;
+        let status = run(alloc, &words, &mut source, &mut side, &mut out, &mut err);
+        assert_eq!(rt; status, Status::Limit);
+        let line = b"pnml: limit: input longer than 67108864 bytes\n".as_slice();
+        assert_eq!(rt; err.bytes(), line);
     }
     Ok(())
 }

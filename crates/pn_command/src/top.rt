@@ -1,18 +1,21 @@
 //! The top call.
 
-ghost use Rattle.std.specs.Prelude.{◌≡◌, ◌≤◌, ◌⊎◌, IfSome, OnOk, OnErr, Err, None, map, string_bytes};
+ghost use Rattle.std.specs.Prelude.{◌≡◌, ◌≤◌, ◌⊎◌, ◌++◌, codes, IfSome, OnOk, OnErr, Err, None, map, string_bytes};
 ghost use Rattle.std.specs.Io.KnownBytes.{IsAtEnd};
 ghost use Rattle.pn_outside.specs.Cause.{Rose, HasCause};
 ghost use Rattle.pn_outside.specs.Taking.{Puts};
+ghost use Rattle.pn_outside.specs.declared.limits.TheConstants.{BYTES};
+ghost use Rattle.pn_tree.specs.Canonical.{canonical_text};
 ghost use Rattle.pn_command.specs.Answer.{Answers, Begins, EachAnswer, ForAnswer, IsAnswer, IsLine, RoseWhereDue, answer_of};
-ghost use Rattle.pn_command.specs.Lines.{summary_line};
+ghost use Rattle.pn_command.specs.Lines.{count_text, summary_line};
 ghost use Rattle.pn_command.specs.Words.{asked_of};
 
 use crate::Status;
 use crate::due::{Due, decide};
 use crate::input::Stop;
-use crate::lines::{NOT_YET, Summary, USAGE, put_summary, put_text};
-use pn_outside::{Failed, Sink, Source};
+use crate::lines::{INPUT_LIMIT, NOT_YET, OUTPUT_LIMIT, Summary, USAGE, put_limit, put_summary};
+use pn_outside::{Failed, Sink, Source, put_text};
+use pn_tree::{Tree, put_tree};
 use std::alloc::Global;
 
 /// Writes a line and passes it on.
@@ -32,6 +35,26 @@ fn write_summary<K: Sink>(sink: &mut K, summary: Summary) -> Result<(), Failed>
     ensures cause { HasCause (K.faults sink.old) (K.faults sink.new) result }
 {
     put_summary(sink, summary)?;
+    sink.done()
+}
+
+/// Writes the line for an input or an output that is too long, and passes it on.
+fn write_limit<K: Sink>(sink: &mut K, label: &str) -> Result<(), Failed>
+    ensures puts { Puts K.taken K.number result sink.old sink.new (count_text label.now BYTES ++ codes " bytes\n") }
+    ensures settled { OnOk result (K.settled sink.new) }
+    ensures cause { HasCause (K.faults sink.old) (K.faults sink.new) result }
+{
+    put_limit(sink, label)?;
+    sink.done()
+}
+
+/// Writes the canonical text of a tree, and passes it on.
+fn write_tree<K: Sink>(sink: &mut K, tree: &Tree) -> Result<(), Failed>
+    ensures puts { Puts K.taken K.number result sink.old sink.new (canonical_text tree.now) }
+    ensures settled { OnOk result (K.settled sink.new) }
+    ensures cause { HasCause (K.faults sink.old) (K.faults sink.new) result }
+{
+    put_tree(tree, sink)?;
     sink.done()
 }
 
@@ -58,14 +81,17 @@ fn deliver<O: Sink, E: Sink>(due: Due, out: &mut O, err: &mut E) -> Status
 {
     match due {
         Due::Misused => ended(write_line(err, USAGE), Status::Usage),
+        Due::TooLong => ended(write_limit(err, INPUT_LIMIT), Status::Limit),
         Due::NotYet => ended(write_line(err, NOT_YET), Status::Refused),
+        Due::OutputTooLong => ended(write_limit(err, OUTPUT_LIMIT), Status::Limit),
         Due::Summary(summary) => ended(write_summary(out, summary), Status::Done),
+        Due::Text(tree) => ended(write_tree(out, &tree), Status::Done),
     }
 }
 
 /// Answers what the words ask for. `source` gives the document; `side` is a second input that no
 /// command reads so far. The answer's text goes to `out`, a usage or refusal line to `err`.
-/// Reads the input whole, and at most 4095 bytes more than an input may have.
+/// Reads the input whole, and at most 4096 bytes more than an input may have.
 pub fn run<S: Source, T: Source, O: Sink, E: Sink>(
     alloc: Global,
     words: &[String],

@@ -19,6 +19,7 @@ pub fn asks(words: &[String]) -> Option<Asked>
 {
     match words {
         [word] if word.as_str() == "check" => Some(Asked::Check),
+        [word] if word.as_str() == "flatten" => Some(Asked::Flatten),
         _ => None,
     }
 }

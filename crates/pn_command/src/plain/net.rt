@@ -21,12 +21,13 @@ pub(crate) struct Place {
     pub(crate) marking: Option<u64>,
 }
 
-/// An arc: its id and the ids of its ends.
+/// An arc: its id, the ids of its ends, and its inscription, where one is written.
 #[derive(Debug, Drop)]
 pub(crate) struct Arc {
     pub(crate) id: Text,
     pub(crate) source: Text,
     pub(crate) target: Text,
+    pub(crate) weight: Option<u64>,
 }
 
 /// The page: its id, and what stands on it, in order. Contracts see the contents.

@@ -1,10 +1,10 @@
 //! Readers of single parts of a plain text. Each goes from the input to the part in front of it
 //! and the rest.
 
-ghost use Rattle.std.specs.Prelude.{◌≡◌, ◌++◌, ◌∷◌, ℕ, codes, decimal, IfOk};
+ghost use Rattle.std.specs.Prelude.{◌≡◌, ◌++◌, ◌∷◌, ℕ, codes, decimal, slice_index, IfOk};
 ghost use Rattle.std.specs.List.{list_all};
 ghost use Rattle.pn_command.specs.Front.{Reads, SplitsAt, Strips};
-ghost use Rattle.pn_command.specs.Plain.{is_id_byte, is_id, IsId, IsMarking, IsPlace, IsArc, IsCount, SpellsNumber, attribute_text, last_attribute_text, marking_text, place_text, transition_text, AreEnds, ends_text, arc_text};
+ghost use Rattle.pn_command.specs.Plain.{is_id_byte, is_id, IsId, IsLabel, IsPlace, IsArc, IsCount, SpellsNumber, attribute_text, last_attribute_text, label_text, marking_text, weight_text, place_text, transition_text, IsTarget, target_text, AreEnds, ends_text, arc_text};
 
 use crate::plain::net::{Arc, GREATEST_COUNT, Place};
 use itoa::Buffer;
@@ -113,18 +113,42 @@ fn number<'a>(input: &'a [u8], lead: &[u8], tail: &[u8]) -> Option<(u64, &'a [u8
     }
 }
 
-/// What follows a place's id.
-fn marking(input: &[u8]) -> Option<(Option<u64>, &[u8])>
-    ensures { Reads (λ m. m) IsMarking marking_text input.now result }
+/// The end of an empty element, or a number from `least` on between `lead` and a `<` before `tail`.
+fn label<'a>(
+    input: &'a [u8],
+    lead: &[u8],
+    tail: &[u8],
+    least: u64,
+) -> Option<(Option<u64>, &'a [u8])>
+    requires { slice_index lead.now 0 ≡ 62 }
+    ensures { Reads (λ m. m) (IsLabel least) (label_text lead.now (60 ∷ tail.now)) input.now result }
 {
     if let Some(rest) = after(input, b"/>") {
         return Some((None, rest));
     }
-    let lead = b"><initialMarking><text>";
-    match number(input, lead, b"/text></initialMarking></place>") {
-        None => None,
-        Some((number, rest)) => Some((Some(number), rest)),
+    let Some((number, rest)) = number(input, lead, tail) else {
+        return None;
+    };
+    if number < least {
+        return None;
     }
+    Some((Some(number), rest))
+}
+
+/// What follows a place's id.
+fn marking(input: &[u8]) -> Option<(Option<u64>, &[u8])>
+    ensures { Reads (λ m. m) (IsLabel 0) marking_text input.now result }
+{
+    let lead = b"><initialMarking><text>";
+    label(input, lead, b"/text></initialMarking></place>", 0)
+}
+
+/// What follows an arc's target.
+fn weight(input: &[u8]) -> Option<(Option<u64>, &[u8])>
+    ensures { Reads (λ m. m) (IsLabel 1) weight_text input.now result }
+{
+    let lead = b"><inscription><text>";
+    label(input, lead, b"/text></inscription></arc>", 1)
 }
 
 /// A text of its own with this id.
@@ -163,14 +187,27 @@ pub(crate) fn transition(alloc: Global, input: &[u8]) -> Result<Option<(Text, &[
     Ok(Some((id, rest)))
 }
 
-/// The ids of an arc's ends, and the end of the arc.
-fn ends(input: &[u8]) -> Option<((&[u8], &[u8]), &[u8])>
-    ensures { Reads (λ ends. (ends.0.now, ends.1.now)) AreEnds ends_text input.now result }
+/// An arc's target, and what follows it.
+fn target(input: &[u8]) -> Option<((&[u8], Option<u64>), &[u8])>
+    ensures { Reads (λ t. (t.0.now, t.1)) IsTarget target_text input.now result }
+{
+    let Some((target, rest)) = attribute(input, b" target=\"") else {
+        return None;
+    };
+    let Some((weight, rest)) = weight(rest) else {
+        return None;
+    };
+    Some(((target, weight), rest))
+}
+
+/// An arc's source, and what follows it.
+fn ends(input: &[u8]) -> Option<((&[u8], (&[u8], Option<u64>)), &[u8])>
+    ensures { Reads (λ ends. (ends.0.now, (ends.1.0.now, ends.1.1))) AreEnds ends_text input.now result }
 {
     let Some((source, rest)) = attribute(input, b" source=\"") else {
         return None;
     };
-    let Some((target, rest)) = last_attribute(rest, b" target=\"") else {
+    let Some((target, rest)) = target(rest) else {
         return None;
     };
     Some(((source, target), rest))
@@ -183,11 +220,17 @@ pub(crate) fn arc(alloc: Global, input: &[u8]) -> Result<Option<(Arc, &[u8])>, A
     let Some((id, rest)) = attribute(input, b"<arc id=\"") else {
         return Ok(None);
     };
-    let Some(((source, target), rest)) = ends(rest) else {
+    let Some(((source, (target, weight)), rest)) = ends(rest) else {
         return Ok(None);
     };
     let id = id_text(alloc, id)?;
     let source = id_text(alloc, source)?;
     let target = id_text(alloc, target)?;
-    Ok(Some((Arc { id, source, target }, rest)))
+    let arc = Arc {
+        id,
+        source,
+        target,
+        weight,
+    };
+    Ok(Some((arc, rest)))
 }

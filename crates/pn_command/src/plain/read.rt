@@ -1,8 +1,8 @@
 //! Readers of whole plain nets.
 
-ghost use Rattle.std.specs.Prelude.{IfOk};
+ghost use Rattle.std.specs.Prelude.{◌↔◌, IfOk, IsTrue};
 ghost use Rattle.pn_command.specs.Front.{ReadsAll, ReadsWhole};
-ghost use Rattle.pn_command.specs.Plain.{IsId, IsPlace, IsArc, place_text, transition_text, arc_text, IsPage, page_text, IsWritten, net_text};
+ghost use Rattle.pn_command.specs.Plain.{IsId, IsPlace, IsArc, place_text, transition_text, arc_text, IsPage, SpellsPage, IsWritten, SpellsNet, Closes, ReadsContent, SkipsStart};
 ghost use Rattle.pn_command.specs.Links.{IsPlain};
 
 use crate::plain::links::is_linked;
@@ -50,24 +50,38 @@ fn arcs(alloc: Global, input: &[u8]) -> Result<(Vec<Arc>, &[u8]), AllocError>
     Ok((arcs, rest))
 }
 
-/// The page that all of the input spells, with the end tags behind it.
-fn page(alloc: Global, input: &[u8]) -> Result<Option<PlainPage>, AllocError>
-    ensures { IfOk result (ReadsWhole IsPage page_text input.now) }
+/// Whether `literal` is all that is left, but for a line end.
+fn closes(input: &[u8], literal: &[u8]) -> bool
+    ensures { IsTrue result ↔ Closes literal.now input.now }
 {
-    let lead = b" type=\"http://www.pnml.org/version-2009/grammar/ptnet\"><page id=\"";
-    let Some((id, rest)) = attribute(input, lead) else {
-        return Ok(None);
-    };
-    let Some(rest) = after(rest, b">") else {
+    match after(input, literal) {
+        None => false,
+        Some(rest) => rest.is_empty() || rest == b"\n".as_slice(),
+    }
+}
+
+/// The page with what the input spells behind its id.
+fn content(alloc: Global, id: Text, input: &[u8]) -> Result<Option<PlainPage>, AllocError>
+    requires { IsId id }
+    ensures { IfOk result (ReadsContent id input.now) }
+{
+    if closes(input, b"/></net></pnml>") {
+        return Ok(Some(PlainPage {
+            id,
+            places: Vec::new(alloc),
+            transitions: Vec::new(alloc),
+            arcs: Vec::new(alloc),
+        }));
+    }
+    let Some(rest) = after(input, b">") else {
         return Ok(None);
     };
     let (places, rest) = places(alloc, rest)?;
     let (transitions, rest) = transitions(alloc, rest)?;
     let (arcs, rest) = arcs(alloc, rest)?;
-    if rest != b"</page></net></pnml>".as_slice() {
+    if !closes(rest, b"</page></net></pnml>") {
         return Ok(None);
     }
-    let id = id_text(alloc, id)?;
     Ok(Some(PlainPage {
         id,
         places,
@@ -76,12 +90,34 @@ fn page(alloc: Global, input: &[u8]) -> Result<Option<PlainPage>, AllocError>
     }))
 }
 
+/// The page that all of the input spells, with the end tags behind it.
+fn page(alloc: Global, input: &[u8]) -> Result<Option<PlainPage>, AllocError>
+    ensures { IfOk result (ReadsWhole IsPage SpellsPage input.now) }
+{
+    let lead = b" type=\"http://www.pnml.org/version-2009/grammar/ptnet\"><page id=\"";
+    let Some((id, rest)) = attribute(input, lead) else {
+        return Ok(None);
+    };
+    let id = id_text(alloc, id)?;
+    content(alloc, id, rest)
+}
+
+/// What follows the XML declaration, or all of the input where there is none.
+fn after_start(input: &[u8]) -> &[u8]
+    ensures { SkipsStart input.now result.now }
+{
+    match after(input, b"<?xml version=\"1.0\" encoding=\"UTF-8\"?>\n") {
+        None => input,
+        Some(rest) => rest,
+    }
+}
+
 /// The net that all of the input spells, whatever its ids name.
 fn written_net(alloc: Global, input: &[u8]) -> Result<Option<PlainNet>, AllocError>
-    ensures { IfOk result (ReadsWhole IsWritten net_text input.now) }
+    ensures { IfOk result (ReadsWhole IsWritten SpellsNet input.now) }
 {
     let lead = b"<pnml xmlns=\"http://www.pnml.org/version-2009/grammar/pnml\"><net id=\"";
-    let Some((id, rest)) = attribute(input, lead) else {
+    let Some((id, rest)) = attribute(after_start(input), lead) else {
         return Ok(None);
     };
     let Some(page) = page(alloc, rest)? else {
@@ -93,7 +129,7 @@ fn written_net(alloc: Global, input: &[u8]) -> Result<Option<PlainNet>, AllocErr
 
 /// The plain net that the input spells, where it spells one.
 pub(crate) fn plain_net(alloc: Global, input: &[u8]) -> Result<Option<PlainNet>, AllocError>
-    ensures { IfOk result (ReadsWhole IsPlain net_text input.now) }
+    ensures { IfOk result (ReadsWhole IsPlain SpellsNet input.now) }
 {
     let Some(net) = written_net(alloc, input)? else {
         return Ok(None);

@@ -7,4 +7,4 @@ returns-in_default-ends c = arc_no_ends c.args.input.now c.in-Some.rest.now c.in
 pub returns : goal.returns
 returns c =
     arc_found c.args.input.now c.in-Some.rest.now c.in-Some-ends.rest.now c.in-Some.id.now c.in-Some-ends.source.now c.in-Some-ends.target.now c.in_ok-id.id c.in_ok-source.source c.in_ok-target.target
-    c.in_ok-id.ensures c.in_ok-source.ensures c.in_ok-target.ensures c.in-Some.ensures c.in-Some-ends.ensures
+    c.in-Some-ends.weight c.in_ok-id.ensures c.in_ok-source.ensures c.in_ok-target.ensures c.in-Some.ensures c.in-Some-ends.ensures

@@ -1,0 +1,147 @@
+-- What a plain net's tree is made of.
+use Rattle.std.proofs.Common.{◌≡◌, ℕ, ◌+◌, ◌%◌, ◌^◌, ◌<◌, Bool, true, false, ◌&&◌, not, ◌==◌, nat_lt, List, [], ◌∷◌, ◌++◌, length, map, take, get_or, append_assoc, append-nil, add-one, decimal, codes, Option, IsSome, refl, sym, ap, ◌∙◌, subst, arith}
+use Rattle.std.proofs.lemmas.Bool.Decides.{nat_tests}
+use Rattle.std.proofs.lemmas.Fmt.{decimal_by_steps, decimal_nonempty}
+use Rattle.std.proofs.lemmas.Slice.Eq.{bytes_eq-Decides}
+use Rattle.std.proofs.lemmas.List.{map-append}
+use Rattle.std.proofs.Math.Nat.{mod-lt}
+use Rattle.std.proofs.Math.Seq.{take-suc}
+use Rattle.std.specs.List.{list_all, flat_map}
+use Rattle.std.specs.Str.{bytes_eq}
+use Rattle.pn_tree.specs.Building.{Building, innermost, begun, at_innermost, with_text, with_kid, ended}
+use Rattle.pn_tree.specs.Characters.{is_character, characters_of, utf8_of, is_text}
+use Rattle.pn_tree.specs.declared.element.Element.{Element}
+use Rattle.pn_tree.specs.declared.element.Child.{Child}
+use Rattle.pn_tree.specs.declared.element.Child.TheVariants as children
+use Rattle.pn_tree.proofs.TextLemmas.{is_text-append}
+use Rattle.pn_command.specs.Building.{IsOpen, with_kids}
+use Rattle.pn_command.specs.NetTree.{made, number_tree}
+use Rattle.pn_command.specs.Plain.{is_id_byte, IsId}
+use Rattle.pn_command.proofs.FrontLemmas.{both_true}
+
+both_hold : (a b : Bool) → a ≡ true → b ≡ true → (a && b) ≡ true
+both_hold a b p q = cc
+
+-- one ASCII byte of a character that a document may have
+byte_is_text : (b : ℕ) → 31 < b → b < 127 → is_text (b ∷ []) ≡ true
+byte_is_text b low high =
+    let small : nat_lt b 128 ≡ true = grind (arith, nat_tests) in
+    let character : is_character b ≡ true = grind (arith, nat_tests) in
+    let back : flat_map utf8_of (b ∷ []) ≡ b ∷ [] = rw small refl in
+    let spelled : characters_of (b ∷ []) ≡ b ∷ [] = rw small refl in
+    subst (λ (cs : List ℕ). (list_all is_character cs && bytes_eq (flat_map utf8_of cs) (b ∷ [])) ≡ true) (sym spelled)
+    (both_hold (list_all is_character (b ∷ [])) (bytes_eq (flat_map utf8_of (b ∷ [])) (b ∷ [])) (both_hold (is_character b) true character refl)
+    ((bytes_eq-Decides (flat_map utf8_of (b ∷ [])) (b ∷ [])).1 back))
+
+-- ASCII bytes that can be printed and need no escape
+abbrev pub IsPlainByte : ℕ → Type 0
+IsPlainByte b = (31 < b) × (b < 127) × (b ≡ 38 → ⊥) × (b ≡ 60 → ⊥) × (b ≡ 62 → ⊥) × (b ≡ 34 → ⊥)
+
+abbrev pub AllPlain : List ℕ → Type 0
+AllPlain [] = Unit {0}
+AllPlain (b ∷ bs) = IsPlainByte b × AllPlain bs
+
+pub plain_is_text : (bs : List ℕ) → AllPlain bs → is_text bs ≡ true
+plain_is_text [] h = refl
+plain_is_text (b ∷ bs) h = is_text-append (b ∷ []) bs (byte_is_text b h.0.0 h.0.1) (plain_is_text bs h.1)
+
+all_plain_append : (xs ys : List ℕ) → AllPlain xs → AllPlain ys → AllPlain (xs ++ ys)
+all_plain_append [] ys p q = q
+all_plain_append (x ∷ xs) ys p q = (p.0, all_plain_append xs ys p.1 q)
+
+id_byte_is_plain : (b : ℕ) → is_id_byte b ≡ true → IsPlainByte b
+id_byte_is_plain b h = (
+  grind (arith, nat_tests),
+  grind (arith, nat_tests),
+  λ e. not_id_byte 38 b refl e h,
+  λ e. not_id_byte 60 b refl e h,
+  λ e. not_id_byte 62 b refl e h,
+  λ e. not_id_byte 34 b refl e h,
+)
+  where
+    not_id_byte : (x b : ℕ) → is_id_byte x ≡ false → b ≡ x → is_id_byte b ≡ true → ⊥
+    not_id_byte x b none e h = let same : is_id_byte b ≡ false = ap is_id_byte e ∙ none in cc
+
+id_bytes_are_plain : (bs : List ℕ) → list_all is_id_byte bs ≡ true → AllPlain bs
+id_bytes_are_plain [] h = tt
+id_bytes_are_plain (b ∷ bs) h = let parts = both_true (is_id_byte b) (list_all is_id_byte bs) h in (id_byte_is_plain b parts.0, id_bytes_are_plain bs parts.1)
+
+pub id_is_plain : (id : List ℕ) → IsId id → AllPlain id
+id_is_plain id is = id_bytes_are_plain id (both_true (not (length id == 0)) (list_all is_id_byte id) is).1
+
+digit_is_plain : (d : ℕ) → d < 10 → IsPlainByte (48 + d)
+digit_is_plain d small = (omega arith, omega arith, λ e. absurd (omega arith), λ e. absurd (omega arith), λ e. absurd (omega arith), λ e. absurd (omega arith))
+
+pub decimal_is_plain : (n : ℕ) → n < 2 ^ 64 → AllPlain (decimal n)
+decimal_is_plain n fits =
+    decimal_by_steps (λ m ds. AllPlain ds) (λ m small. (digit_is_plain m small, tt)) (λ m ds large plain. all_plain_append ds _ plain (digit_is_plain (m % 10) (mod-lt m (omega arith)), tt)) n fits
+
+pub id_is_text : (id : List ℕ) → IsId id → is_text id ≡ true
+id_is_text id is = plain_is_text id (id_is_plain id is)
+
+pub decimal_is_text : (n : ℕ) → n < 2 ^ 64 → is_text (decimal n) ≡ true
+decimal_is_text n fits = plain_is_text (decimal n) (decimal_is_plain n fits)
+
+-- what is ended inside an open element is its next kid
+ended_by : (root : Option Element) (e : Element) (es : List Element) → IsSome (innermost (record { root = root; open_elements = es }))
+    → ended (record { root = root; open_elements = e ∷ es }) ≡ at_innermost (with_kid (children.Element e)) (record { root = root; open_elements = es })
+ended_by root e [] some = cc
+ended_by root e (p ∷ ps) some = refl
+
+pub ended_inside : (b : Building) (e : Element) → IsSome (innermost b) → ended (record b { open_elements = e ∷ b.open_elements }) ≡ at_innermost (with_kid (children.Element e)) b
+ended_inside b e some = ended_by b.root e b.open_elements some
+
+-- a text that is an element's only kid
+only_text : (name t : List ℕ) → 0 < length t → with_text t (made name [] []) ≡ made name [] (children.Text t ∷ [])
+only_text name [] some = absurd (omega arith)
+only_text name (b ∷ bs) some = refl
+
+-- a label with a number, added inside an open element
+pub number_added : (b : Building) (name : List ℕ) (n : ℕ) → n < 2 ^ 64 → IsSome (innermost b)
+    → ended (ended (at_innermost (with_text (decimal n)) (begun (codes "text") 0 (begun name 0 b)))) ≡ at_innermost (with_kid (children.Element (number_tree name n))) b
+number_added b name n fits some =
+    ap (λ (e : Element). ended (ended (record b { open_elements = e ∷ made name [] [] ∷ b.open_elements }))) (only_text (codes "text") (decimal n) (decimal_nonempty n fits))
+    ∙ ended_inside b (number_tree name n) some
+
+-- the innermost element is changed, and changed again
+changed_twice : (f g : Element → Element) (root : Option Element) (es : List Element)
+    → at_innermost f (at_innermost g (record { root = root; open_elements = es })) ≡ at_innermost (λ e. f (g e)) (record { root = root; open_elements = es })
+changed_twice f g root [] = refl
+changed_twice f g root (e ∷ es) = refl
+
+changed_alike : (f g : Element → Element) → ((e : Element) → f e ≡ g e) → (root : Option Element) (es : List Element)
+    → at_innermost f (record { root = root; open_elements = es }) ≡ at_innermost g (record { root = root; open_elements = es })
+changed_alike f g same root [] = refl
+changed_alike f g same root (e ∷ es) = ap (λ (v : Element). record { root = root; open_elements = v ∷ es }) (same e)
+
+unchanged : (f : Element → Element) → ((e : Element) → f e ≡ e) → (root : Option Element) (es : List Element)
+    → at_innermost f (record { root = root; open_elements = es }) ≡ record { root = root; open_elements = es }
+unchanged f same root [] = refl
+unchanged f same root (e ∷ es) = ap (λ (v : Element). record { root = root; open_elements = v ∷ es }) (same e)
+
+-- no kids change nothing
+pub no_kids : (b : Building) → at_innermost (with_kids []) b ≡ b
+no_kids b = unchanged (with_kids []) (λ e. ap (λ (v : List Child). record { name = e.name; at = e.at; attrs = e.attrs; kids = v }) (append-nil e.kids)) b.root b.open_elements
+
+-- kids, and then more
+pub more_kids : (b : Building) (ks ls : List Child) → at_innermost (with_kids ls) (at_innermost (with_kids ks) b) ≡ at_innermost (with_kids (ks ++ ls)) b
+more_kids b ks ls =
+    changed_twice (with_kids ls) (with_kids ks) b.root b.open_elements
+    ∙ changed_alike (λ e. with_kids ls (with_kids ks e)) (with_kids (ks ++ ls))
+    (λ e. ap (λ (v : List Child). record { name = e.name; at = e.at; attrs = e.attrs; kids = v }) (append_assoc e.kids ks ls)) b.root b.open_elements
+
+-- the innermost element stays open where it is changed
+open_by : (f : Element → Element) (root : Option Element) (es : List Element) → IsSome (innermost (record { root = root; open_elements = es }))
+    → IsSome (innermost (at_innermost f (record { root = root; open_elements = es }))) × (length (at_innermost f (record { root = root; open_elements = es })).open_elements ≡ length es)
+open_by f root [] some = cc
+open_by f root (e ∷ es) some = (refl, refl)
+
+pub open_still : (levels : ℕ) (f : Element → Element) (b : Building) → IsOpen levels b → IsOpen levels (at_innermost f b)
+open_still levels f b is = let still = open_by f b.root b.open_elements is.some in record { unended = is.unended; some = still.0; room = rw still.1 is.room }
+
+-- one more item's kid in a loop
+pub kid_next : {A : Type 0} (kid : A → Child) (items : List A) (i : ℕ) (d : A) (lt : i < length items) (b now next : Building)
+    → now ≡ at_innermost (with_kids (map kid (take i items))) b → next ≡ at_innermost (with_kid (kid (get_or items i d))) now → next ≡ at_innermost (with_kids (map kid (take (i + 1) items))) b
+kid_next kid items i d lt b now next before step =
+    let more : map kid (take (i + 1) items) ≡ map kid (take i items) ++ kid (get_or items i d) ∷ [] = ap (map kid) (rw add-one (take-suc items i d lt)) ∙ map-append kid (take i items) (get_or items i d ∷ []) in
+    step ∙ ap (at_innermost (with_kid (kid (get_or items i d)))) before ∙ more_kids b (map kid (take i items)) (kid (get_or items i d) ∷ []) ∙ ap (λ ks. at_innermost (with_kids ks) b) (sym more)
