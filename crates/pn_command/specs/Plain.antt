@@ -2,7 +2,7 @@
 use Rattle.std.specs.Prelude.{◌≡◌, ◌≢◌, ◌≤◌, ℕ, List, [], ◌++◌, ◌⊎◌, Bool, ◌&&◌, ◌||◌, ◌==◌, nat_le, not, codes, decimal, length, IsTrue, Option, None, Some, MatchOption}
 use Rattle.std.specs.List.{flat_map, list_all, AllByRecursion}
 use Rattle.pn_tree.specs.Canonical.{declaration}
-use Rattle.pn_command.specs.declared.plain.net.TheConstants.{GREATEST_COUNT}
+use Rattle.pn_bag.specs.declared.TheConstants.{MAX_COUNT}
 use Rattle.pn_command.specs.declared.plain.net.Place.{Place}
 use Rattle.pn_command.specs.declared.plain.net.Arc.{Arc}
 
@@ -19,7 +19,7 @@ IsId id = IsTrue (is_id id)
 
 -- a number of tokens
 abbrev pub IsCount : ℕ → Type 0
-IsCount n = n ≤ GREATEST_COUNT
+IsCount n = n ≤ MAX_COUNT
 
 -- the number whose decimal these bytes are, where it is a number of tokens
 abbrev pub SpellsNumber : List ℕ → Option ℕ → Type 0

@@ -69,8 +69,8 @@ fn expect(
 }
 
 /// A document with one part in the place of another.
-fn with(alloc: Global, part: &str, other: &str) -> Result<String, AllocError> {
-    let (before, after) = TRANSFER.split_once(part).unwrap_or((TRANSFER, ""));
+fn with(alloc: Global, part: &str, other: &str) -> Result<String, Fail> {
+    let (before, after) = TRANSFER.split_once(part).ok_or("no such part")?;
     let mut text = String::from_str(alloc, before)?;
     text.push_str(other)?;
     text.push_str(after)?;
@@ -183,9 +183,7 @@ fn flatten_writes_the_canonical_text(rt: HostRuntime) -> Result<(), Fail> {
 #[test]
 fn a_page_without_parts_is_an_empty_element(rt: HostRuntime) -> Result<(), Fail> {
     let alloc = rt.alloc();
-    let (before, parts) = TRANSFER.split_once("</place>").unwrap_or((TRANSFER, ""));
-    assert!(rt; !parts.is_empty());
-    let (head, _) = before.split_once("><place").unwrap_or((before, ""));
+    let (head, _) = TRANSFER.split_once("><place").ok_or("no place")?;
     let mut long = String::from_str(alloc, head)?;
     long.push_str("></page></net></pnml>")?;
     let mut short = String::from_str(alloc, DECLARATION)?;

@@ -120,7 +120,7 @@ pub fn run<S: Source, T: Source, O: Sink, E: Sink>(
         → ¬ Rose (O.faults out.old) (O.faults out.new) → ¬ Rose (E.faults err.old) (E.faults err.new)
         → IsAnswer result ⊎ (result ≡ Status.OutOfMemory) }
 
-    // Where the words ask for nothing, nothing is read and no memory is taken.
+    // Where the words ask for nothing, nothing is read, and no want of memory is answered.
     ensures unread { asked_of (map string_bytes words.now) ≡ None → source.new ≡ source.old }
     ensures misused { asked_of (map string_bytes words.now) ≡ None → (result ≡ Status.Usage) ⊎ (result ≡ Status.WriteFault) }
     ensures usage { result ≡ Status.Usage → asked_of (map string_bytes words.now) ≡ None }

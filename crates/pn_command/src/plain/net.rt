@@ -11,9 +11,6 @@ pub(crate) enum Role {
     Arc,
 }
 
-/// The greatest number of tokens of a place.
-pub(crate) const GREATEST_COUNT: u64 = 9223372036854775807;
-
 /// A place: its id and its initial marking, where one is written.
 #[derive(Debug, Drop)]
 pub(crate) struct Place {

@@ -6,9 +6,10 @@ ghost use Rattle.std.specs.List.{list_all};
 ghost use Rattle.pn_command.specs.Front.{Reads, SplitsAt, Strips};
 ghost use Rattle.pn_command.specs.Plain.{is_id_byte, is_id, IsId, IsLabel, IsPlace, IsArc, IsCount, SpellsNumber, attribute_text, last_attribute_text, label_text, marking_text, weight_text, place_text, transition_text, IsTarget, target_text, AreEnds, ends_text, arc_text};
 
-use crate::plain::net::{Arc, GREATEST_COUNT, Place};
+use crate::plain::net::{Arc, Place};
 use itoa::Buffer;
 use memchr::memchr;
+use pn_bag::MAX_COUNT;
 use pn_text::Text;
 use std::alloc::{AllocError, Global};
 
@@ -83,7 +84,7 @@ fn number_of(digits: &[u8]) -> Option<u64>
     let Ok(number) = text.parse::<u64>() else {
         return None;
     };
-    if number > GREATEST_COUNT {
+    if number > MAX_COUNT {
         return None;
     }
     let mut buffer = Buffer::new();

@@ -14,8 +14,8 @@ pub returns-in_default-parse : goal.returns-in_default-parse
 returns-in_default-parse c n count e =
     c.in_default-parse.not-Ok n (parse-decimal 64 n c.in-Ok.text.now c.parse.result (omega arith) (omega arith) (c.in-Ok.ensures.cases.0 ∙ e) c.parse.ensures.value.0)
 
-pub returns-then-number-gt-GREATEST_COUNT : goal.returns-then-number-gt-GREATEST_COUNT
-returns-then-number-gt-GREATEST_COUNT c n count e =
+pub returns-then-number-gt-MAX_COUNT : goal.returns-then-number-gt-MAX_COUNT
+returns-then-number-gt-MAX_COUNT c n count e =
     let parsed = parse-decimal 64 n c.in-Ok.text.now c.parse.result (omega arith) (omega arith) (c.in-Ok.ensures.cases.0 ∙ e) c.parse.ensures.value.0 in
     let same : c.in-Ok-parse.number ≡ n = cc in
     omega arith
