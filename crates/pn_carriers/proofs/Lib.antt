@@ -1,0 +1,12 @@
+pub mod NumberLemmas
+pub mod PlaceLemmas
+pub mod ChoiceLemmas
+pub mod SizeLemmas
+pub mod LayerLemmas
+pub mod TextLemmas
+pub mod MemberLemmas
+pub mod ValueLemmas
+pub mod CarrierLemmas
+pub mod OrdinalLemmas
+pub mod OrderLemmas
+pub mod NthLemmas

@@ -1,0 +1,11 @@
+pub mod Rows
+pub mod Ways
+pub mod Paths
+pub mod Beginning
+pub mod Opening
+pub mod Joining
+pub mod Taking
+pub mod Finishing
+pub mod Closing
+pub mod Telling
+pub mod Working

@@ -1,0 +1,5 @@
+pub mod Graphs
+pub mod Orders
+pub mod Searches
+pub mod States
+pub mod Rows

@@ -1,0 +1,4 @@
+pub mod Reasons
+pub mod Order
+pub mod Least
+pub mod Standing

@@ -1,0 +1,5 @@
+pub mod IndexLemmas
+pub mod DeclaredLemmas
+pub mod BaseLemmas
+pub mod TableLemmas
+pub mod SplitLemmas

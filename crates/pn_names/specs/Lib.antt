@@ -1,0 +1,4 @@
+pub mod Index
+pub mod Names
+pub mod Partitions
+pub mod Tables

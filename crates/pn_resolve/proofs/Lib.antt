@@ -1,0 +1,15 @@
+pub mod CycleLemmas
+pub mod Expressions
+pub mod ExtentLemmas
+pub mod FaultLemmas
+pub mod KeepLemmas
+pub mod LeastLemmas
+pub mod LinkLemmas
+pub mod ListingLemmas
+pub mod Lists
+pub mod MakeLemmas
+pub mod Meanings
+pub mod NameLemmas
+pub mod ResolveLemmas
+pub mod TableLemmas
+pub mod TruthLemmas

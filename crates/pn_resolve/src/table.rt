@@ -1,0 +1,162 @@
+//! The sorts of the declarations.
+
+ghost use Rattle.std.specs.Prelude.{◌≡◌, ◌<◌, ◌^◌, ℕ, length, Some, None, IfOk, OnOk};
+ghost use Rattle.std.specs.List.{slice_get};
+ghost use Rattle.std.specs.Option.{option_copied};
+ghost use Rattle.pn_values.specs.declared.declaration.Declaration.{Declaration};
+ghost use Rattle.pn_names.specs.Names.{names_of, AreNumbered};
+ghost use Rattle.pn_resolve.specs.Tables.{own_sort, own_extent, plain_expr, extents_with, sorts_with, extent_in, sort_in, IsTable};
+
+use crate::Extent;
+use crate::build::build_within;
+use crate::links::{Sources, graph_of};
+use crate::walk::walk;
+use pn_cycles::order_of;
+use pn_names::Index;
+use pn_values::{Declaration, Sort, SortBody, SortExpr};
+use std::alloc::{AllocError, Global};
+use std::marker::Model;
+
+/// For each declaration the extent of the sort of its name, and that sort where it keeps within the
+/// limits.
+#[derive(Debug, Drop)]
+pub struct Table {
+    pub(crate) extents: Vec<Extent>,
+    pub(crate) sorts: Vec<Option<Sort>>,
+}
+
+impl Model for Table {
+    ghost use Rattle.std.specs.Coded.{codes};
+    ghost use Rattle.pn_values.specs.contracts.sort.Sort as sort;
+    ghost use Rattle.pn_resolve.specs.Tables.{Entries};
+
+    ghost Value = { Entries };
+
+    ghost coded = { Prim.hlevel (codes, sort.the_row.coded) };
+
+    ghost view = { λ table. record { extents = table.extents.items; sorts = table.sorts.items } };
+}
+
+impl Table {
+    /// The table of these declarations. Each `namedsort` is resolved once, behind those that it
+    /// names, so the time is linear in the declarations and in the nodes of the sorts that keep
+    /// within the limits.
+    pub fn of(alloc: Global, items: &[Declaration], index: &Index) -> Result<Table, AllocError>
+        requires index { index.now ≡ names_of items.now }
+        requires numbered { AreNumbered items.now }
+        ensures { IfOk result (IsTable items.now index.now) }
+    {
+        let graph = graph_of(alloc, index, items, Sources::Named)?;
+        let order = order_of(alloc, &graph)?;
+        let mut extents = own_extents(alloc, items)?;
+        let mut sorts = own_sorts(alloc, items)?;
+        for place in order.nodes() {
+            settle(
+                alloc,
+                index,
+                &items[*place],
+                order.is_on_cycle(*place),
+                *place,
+                &mut extents,
+                &mut sorts,
+            )?;
+        }
+        Ok(Table { extents, sorts })
+    }
+}
+
+/// The extents of the sorts that are there by their places alone.
+fn own_extents(alloc: Global, items: &[Declaration]) -> Result<Vec<Extent>, AllocError>
+    requires { length items.now < 2 ^ 32 }
+    ensures sized { IfOk result (λ extents. length extents.items ≡ length items.now) }
+    ensures own { IfOk result (λ extents. (place : ℕ) (d : Declaration) → slice_get items.now place ≡ Some d → extent_in extents.items place ≡ own_extent place d) }
+{
+    let mut extents = Vec::new(alloc);
+    for place in 0..items.len() {
+        extents.push(own_extent(place as u32, &items[place]))?;
+    }
+    Ok(extents)
+}
+
+fn own_extent(place: u32, declaration: &Declaration) -> Extent
+    ensures { result ≡ own_extent place declaration.now }
+{
+    match own_sort(place, declaration) {
+        Some(_) => Extent::Fits { depth: 1, nodes: 1 },
+        None => Extent::NoSort,
+    }
+}
+
+/// The sorts that are there by their places alone.
+fn own_sorts(alloc: Global, items: &[Declaration]) -> Result<Vec<Option<Sort>>, AllocError>
+    requires { length items.now < 2 ^ 32 }
+    ensures sized { IfOk result (λ sorts. length sorts.items ≡ length items.now) }
+    ensures own { IfOk result (λ sorts. (place : ℕ) (d : Declaration) → slice_get items.now place ≡ Some d → sort_in sorts.items place ≡ own_sort place d) }
+{
+    let mut sorts = Vec::new(alloc);
+    for place in 0..items.len() {
+        sorts.push(own_sort(place as u32, &items[place]))?;
+    }
+    Ok(sorts)
+}
+
+/// The sort of an enumeration or a partition.
+fn own_sort(place: u32, declaration: &Declaration) -> Option<Sort>
+    ensures { result ≡ own_sort place declaration.now }
+{
+    match declaration {
+        Declaration::Named { body, .. } => match body {
+            SortBody::Plain(_) => None,
+            _ => Some(Sort::Enumeration(place)),
+        },
+        Declaration::Variable { .. } => None,
+        Declaration::Partition { .. } => Some(Sort::Partition(place)),
+    }
+}
+
+/// Settles the sort of a `namedsort` whose expression names only declarations that are settled, or
+/// which is on a cycle.
+fn settle(
+    alloc: Global,
+    index: &Index,
+    declaration: &Declaration,
+    is_cyclic: bool,
+    place: usize,
+    extents: &mut [Extent],
+    sorts: &mut [Option<Sort>],
+) -> Result<(), AllocError>
+    requires extents { place < length extents.old }
+    requires sorts { place < length sorts.old }
+    ensures extents { OnOk result (extents.new ≡ extents_with index.now is_cyclic place (plain_expr declaration.now) extents.old) }
+    ensures sorts { OnOk result (sorts.new ≡ sorts_with index.now is_cyclic place (plain_expr declaration.now) extents.old sorts.old) }
+{
+    match plain_of(declaration) {
+        None => Ok(()),
+        Some(expr) => {
+            if is_cyclic {
+                extents[place] = Extent::NoSort;
+                sorts[place] = None;
+                return Ok(());
+            }
+            let mut least = None;
+            let extent = walk(alloc, index, extents, expr, &mut least)?;
+            let sort = build_within(alloc, index, sorts, expr, extent)?;
+            extents[place] = extent;
+            sorts[place] = sort;
+            Ok(())
+        }
+    }
+}
+
+/// The sort expression of a `namedsort` that declares no enumeration.
+fn plain_of(declaration: &Declaration) -> Option<&SortExpr>
+    ensures { option_copied result ≡ plain_expr declaration.now }
+{
+    match declaration {
+        Declaration::Named { body, .. } => match body {
+            SortBody::Plain(expr) => Some(expr),
+            _ => None,
+        },
+        _ => None,
+    }
+}

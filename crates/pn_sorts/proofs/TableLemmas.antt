@@ -1,0 +1,162 @@
+-- The sorts and tables of declarations that have no fault.
+use Rattle.std.proofs.Common.{◌≡◌, ◌<◌, ◌≤◌, ◌^◌, ℕ, zero, suc, Bool, true, false, List, [], ◌∷◌, length, map, refl, sym, ap, ◌∙◌, subst, Option, Some, None, slice_get, slice_index, IsSome, true≢false, arith}
+use Rattle.std.specs.Option.{option_and_then}
+use Rattle.std.proofs.lemmas.Option.{slice_get_within}
+use Rattle.std.specs.List.{AllByRecursion, range_with_len}
+use Rattle.pn_values.specs.declared.declaration.Declaration.{Declaration}
+use Rattle.pn_values.specs.declared.declaration.Declaration.TheVariants as declarations
+use Rattle.pn_values.specs.declared.declaration.PartElement.{PartElement}
+use Rattle.pn_values.specs.declared.sort.Sort.{Sort}
+use Rattle.pn_values.specs.declared.sort_expr.SortExpr.{SortExpr}
+use Rattle.pn_values.specs.declared.value.Value.{Value}
+use Rattle.std.proofs.Common.{leb-true}
+use Rattle.pn_values.specs.declared.sort.Sort.TheOpen as layer
+use Rattle.pn_values.specs.declared.sort.Sort.TheViews.{out-Sort, roll-Sort, roll-out-Sort}
+use Rattle.pn_values.specs.declared.sort.Sort.TheFolds.{fold-roll-Sort}
+use Rattle.pn_carriers.specs.Carriers.{carrier, count_between, is_finite, is_finite_layer}
+use Rattle.pn_carriers.proofs.SizeLemmas.{length_constants, length_numbers}
+use Rattle.pn_names.proofs.BaseLemmas.{carrier_out, carrier_enumeration, carrier_range}
+use Rattle.pn_carriers.specs.Members.{IsMember}
+use Rattle.pn_names.specs.Names.{AreNumbered, constant_ids, widths_of, variables_of, variable_places_of, variable_at, variable_of, Variable}
+use Rattle.pn_names.specs.Partitions.{is_splittable, is_splittable_layer}
+use Rattle.pn_names.proofs.DeclaredLemmas.{variable_declared, as_many_places}
+use Rattle.pn_resolve.specs.Meaning.{Resolves}
+use Rattle.pn_resolve.specs.Standing.{IsFaultless, base_of, elements_of, expr_of}
+use Rattle.pn_sorts.specs.Keeping.{HasSort, HasTable, IsResolved}
+use Rattle.pn_sorts.specs.Lookups.{IsBaseSort, IsPartOf, IsVariableSort, base_expr}
+
+base_is_expr : (d : Declaration) (e : SortExpr) → base_of d ≡ Some e → expr_of d ≡ Some e
+base_is_expr (declarations.Named id name body at) e h = cc
+base_is_expr (declarations.Variable id name sort at) e h = cc
+base_is_expr (declarations.Partition id name sort elements at) e h = h
+
+-- a partition with its base sort
+pub record BaseAt (items : List Declaration) (sorts : List (Option Sort)) (place : ℕ) : Type 0 where
+  pub declaration : Declaration
+  pub expr : SortExpr
+  pub stands : slice_get items place ≡ Some declaration
+  pub is_base : base_of declaration ≡ Some expr
+  pub has : HasSort items sorts place expr
+
+pub base_at : (items : List Declaration) (sorts : List (Option Sort)) (tables : List (Option (List ℕ))) (place : ℕ) → IsResolved items sorts tables → IsFaultless items → IsSome (base_expr items place) → BaseAt items sorts place
+base_at items sorts tables place resolved faultless some = by (slice_get items place) refl some
+  where
+    within : (d : Declaration) (o : Option SortExpr) → slice_get items place ≡ Some d → base_of d ≡ o → IsSome o → BaseAt items sorts place
+    within d None there is some = absurd (true≢false (sym some))
+    within d (Some e) there is some = record { declaration = d; expr = e; stands = there; is_base = is; has = resolved.each place d e faultless there (base_is_expr d e is) }
+
+    by : (o : Option Declaration) → slice_get items place ≡ o → IsSome (option_and_then base_of o) → BaseAt items sorts place
+    by None there some = absurd (true≢false (sym some))
+    by (Some d) there some = within d (base_of d) there refl some
+
+pub is_base_sort : (items : List Declaration) (sorts : List (Option Sort)) (place : ℕ) (s : Sort) → (b : BaseAt items sorts place) → slice_get sorts place ≡ Some (Some s) → IsBaseSort items place s
+is_base_sort items sorts place s b there =
+    let same : b.has.sort ≡ s = both_some b.has.sort s (sym b.has.stands ∙ there) in
+    (b.expr, ap (option_and_then base_of) b.stands ∙ b.is_base, subst (Resolves items b.expr) same b.has.resolves)
+  where
+    both_some : (x y : Sort) → Some (Some x) ≡ Some (Some y) → x ≡ y
+    both_some x y e = cc
+
+pub sort_stands : (items : List Declaration) (sorts : List (Option Sort)) (place : ℕ) → BaseAt items sorts place → (sort : Sort) × (slice_get sorts place ≡ Some (Some sort))
+sort_stands items sorts place b = (b.has.sort, b.has.stands)
+
+-- a variable with its sort
+pub record VariableAt (items : List Declaration) (sorts : List (Option Sort)) (v place : ℕ) : Type 0 where
+  pub variable : Variable
+  pub stands : slice_get (variables_of items) v ≡ Some variable
+  pub has : HasSort items sorts place variable.sort
+
+not_past : {A : Type 0} (xs : List A) (i : ℕ) → i < length xs → slice_get xs i ≡ None → ⊥
+not_past [] i small e = omega arith
+not_past (x ∷ xs) zero small e = cc
+not_past (x ∷ xs) (suc i) small e = not_past xs i (omega arith) e
+
+variable_is_expr : (d : Declaration) (x : Variable) → variable_of d ≡ Some x → expr_of d ≡ Some x.sort
+variable_is_expr (declarations.Named id name body at) x h = cc
+variable_is_expr (declarations.Variable id name sort at) x h = cc
+variable_is_expr (declarations.Partition id name sort elements at) x h = cc
+
+pub variable_with : (items : List Declaration) (sorts : List (Option Sort)) (tables : List (Option (List ℕ))) (v place : ℕ) → IsResolved items sorts tables → IsFaultless items → v < length (variables_of items)
+    → slice_get (variable_places_of items) v ≡ Some place → VariableAt items sorts v place
+variable_with items sorts tables v place resolved faultless small at = by (slice_get (variables_of items) v) refl
+  where
+    declared : slice_get (variables_of items) v ≡ option_and_then variable_of (slice_get items place)
+    declared = variable_declared items v ∙ ap (option_and_then (variable_at items)) at
+
+    found : (x : Variable) (d : Option Declaration) → slice_get (variables_of items) v ≡ Some x → slice_get items place ≡ d → option_and_then variable_of d ≡ Some x → VariableAt items sorts v place
+    found x None is there h = cc
+    found x (Some d) is there h = record { variable = x; stands = is; has = resolved.each place d x.sort faultless there (variable_is_expr d x h) }
+
+    by : (o : Option Variable) → slice_get (variables_of items) v ≡ o → VariableAt items sorts v place
+    by None e = absurd (not_past (variables_of items) v small e)
+    by (Some x) e = found x (slice_get items place) e refl (sym declared ∙ e)
+
+pub variable_sort_stands : (items : List Declaration) (sorts : List (Option Sort)) (v place : ℕ) → VariableAt items sorts v place → (sort : Sort) × (slice_get sorts place ≡ Some (Some sort))
+variable_sort_stands items sorts v place x = (x.has.sort, x.has.stands)
+
+both_some : (x y : Sort) → Some (Some x) ≡ Some (Some y) → x ≡ y
+both_some x y e = cc
+
+pub is_variable_sort : (items : List Declaration) (sorts : List (Option Sort)) (v place : ℕ) (s : Sort) → (x : VariableAt items sorts v place) → slice_get sorts place ≡ Some (Some s) → IsVariableSort items v s
+is_variable_sort items sorts v place s x there = (x.variable, x.stands, subst (Resolves items x.variable.sort) (both_some x.has.sort s (sym x.has.stands ∙ there)) x.has.resolves)
+
+-- a number below the width of each declaration
+width_fits : (ds : List Declaration) (place : ℕ) → AllByRecursion (λ d. length (constant_ids d) < 2 ^ 32) ds → slice_index (widths_of ds) place < 2 ^ 32
+width_fits [] place all = omega arith
+width_fits (d ∷ ds) zero all = all.0
+width_fits (d ∷ ds) (suc place) all = width_fits ds place all.1
+
+-- whether it is finite and how many values it has, by the layer of a sort
+finite_out : (s : Sort) (l : layer.Sort-F Sort) → out-Sort s ≡ l → is_finite s ≡ is_finite (roll-Sort l)
+finite_out s l is = ap is_finite (sym (roll-out-Sort s) ∙ ap roll-Sort is)
+
+small_layer : (items : List Declaration) (s : Sort) (l : layer.Sort-F Sort) → AreNumbered items → out-Sort s ≡ l → is_splittable_layer l ≡ true → (is_finite s ≡ true) × (length (carrier (widths_of items) s) < 2 ^ 64)
+small_layer items s (layer.Enumeration place) numbered is ok =
+    let count : length (carrier (widths_of items) s) ≡ slice_index (widths_of items) place =
+    ap length (carrier_out (widths_of items) s (layer.Enumeration place) is ∙ carrier_enumeration (widths_of items) place) ∙ length_constants (slice_index (widths_of items) place) in
+    let fits = width_fits items place numbered.constants in
+    (finite_out s (layer.Enumeration place) is ∙ fold-roll-Sort Bool is_finite_layer (layer.Enumeration place), omega arith)
+small_layer items s (layer.Range start end) numbered is ok =
+    let count : length (carrier (widths_of items) s) ≡ count_between start end =
+    ap length (carrier_out (widths_of items) s (layer.Range start end) is ∙ carrier_range (widths_of items) start end) ∙ length_numbers start end in
+    let few : count_between start end ≤ 1048576 = leb-true (count_between start end) 1048576 ok in
+    (finite_out s (layer.Range start end) is ∙ fold-roll-Sort Bool is_finite_layer (layer.Range start end), omega arith)
+small_layer items s layer.Dot numbered is ok = cc
+small_layer items s layer.Bool numbered is ok = cc
+small_layer items s (layer.Partition place) numbered is ok = cc
+small_layer items s (layer.Product parts) numbered is ok = cc
+small_layer items s layer.Integer numbered is ok = cc
+small_layer items s layer.Natural numbered is ok = cc
+small_layer items s layer.Positive numbered is ok = cc
+small_layer items s layer.Text numbered is ok = cc
+small_layer items s (layer.List part) numbered is ok = cc
+
+-- a sort that can be split is finite and has few values
+pub splittable_is_small : (items : List Declaration) (s : Sort) → AreNumbered items → is_splittable s ≡ true → (is_finite s ≡ true) × (length (carrier (widths_of items) s) < 2 ^ 64)
+splittable_is_small items s numbered ok = small_layer items s (out-Sort s) numbered refl ok
+
+-- the table of a partition, by the sort that stands for it
+pub table_at : (items : List Declaration) (sorts : List (Option Sort)) (tables : List (Option (List ℕ))) (place : ℕ) (s : Sort) → IsResolved items sorts tables → IsFaultless items → (b : BaseAt items sorts place)
+    → slice_get sorts place ≡ Some (Some s) → HasTable items tables place b.declaration s
+table_at items sorts tables place s resolved faultless b there =
+    resolved.split place b.declaration b.expr s faultless b.stands b.is_base (subst (Resolves items b.expr) (both_some b.has.sort s (sym b.has.stands ∙ there)) b.has.resolves)
+
+-- the entry for a value is there
+pub entry_there : (items : List Declaration) (tables : List (Option (List ℕ))) (place k : ℕ) (d : Declaration) (s : Sort) (v : Value) → HasTable items tables place d s → slice_get (carrier (widths_of items) s) k ≡ Some v
+    → (table : List ℕ) × (slice_get tables place ≡ Some (Some table)) × (k < length table)
+entry_there items tables place k d s v has at = (has.table, has.stands, subst (λ n. k < n) (sym has.parts.size) (slice_get_within (carrier (widths_of items) s) k v at))
+
+entry_is : (tables : List (Option (List ℕ))) (place k n : ℕ) (table : List ℕ) → slice_get tables place ≡ Some (Some table) → option_and_then (λ t. option_and_then (λ l. slice_get l k) t) (slice_get tables place) ≡ Some n → slice_get table k ≡ Some n
+entry_is tables place k n table there h = ap (option_and_then (λ t. option_and_then (λ l. slice_get l k) t)) (sym there) ∙ h
+
+pub is_part_of : (items : List Declaration) (sorts : List (Option Sort)) (tables : List (Option (List ℕ))) (place k n : ℕ) (s : Sort) (v : Value) → (b : BaseAt items sorts place) → IsBaseSort items place s
+    → HasTable items tables place b.declaration s → slice_get (carrier (widths_of items) s) k ≡ Some v → option_and_then (λ t. option_and_then (λ l. slice_get l k) t) (slice_get tables place) ≡ Some n → IsPartOf items place v n
+is_part_of items sorts tables place k n s v b base has at entry =
+    let listed = has.parts.lists k v at in
+    let number = entry_is tables place k n has.table has.stands entry in (
+      s,
+      listed.0,
+      base,
+      ap (option_and_then (λ d. slice_get (elements_of d) n)) b.stands ∙ ap (option_and_then (slice_get (elements_of b.declaration))) (sym number) ∙ listed.1,
+      listed.2,
+    )

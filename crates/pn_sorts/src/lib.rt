@@ -1,0 +1,26 @@
+//! Sorts of coloured nets, their values, and the declarations of a document (ISO/IEC 15909-2,
+//! declarations and sorts).
+#![tactic(auto)]
+
+mod decls;
+mod lookups;
+mod settle;
+
+pub use decls::Decls;
+pub use pn_faults::{Fault, Kind, Reason, Refusal};
+pub use pn_names::{are_distinct, are_numbered};
+pub use pn_resolve::{MAX_DEPTH, MAX_NODES};
+pub use pn_values::{
+    ConstExpr, Constant, ConstantRef, Declaration, PartElement, Size, Sort, SortBody, SortExpr,
+    SortNode, Value,
+};
+
+/// The laws that walks over faults cite.
+pub mod laws {
+    pub use pn_faults::laws::{
+        faults_are_ordered, least_is_first, least_of_each, least_of_parts, least_of_two,
+    };
+}
+
+#[cfg(test)]
+mod tests;

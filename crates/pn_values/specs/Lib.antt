@@ -1,0 +1,4 @@
+pub mod Kin
+pub mod Sizes
+pub mod Order
+pub mod OrderLaws
