@@ -1,0 +1,40 @@
+ghost use Rattle.std.specs.Prelude.{◌≡◌, ◌↔◌, Some};
+ghost use Rattle.pn_operators.specs.Operators.{name_of, is_taken, IsTaken};
+ghost use Rattle.pn_operators.specs.Rows.{found_in, IsTable};
+ghost use Rattle.pn_operators.specs.declared.op.Op.{Op};
+
+use crate::{Op, OpRow};
+use pn_faults::Kind;
+
+/// The operator of the table whose element has this name, where nets of this kind have it. Takes
+/// no memory.
+pub fn find_in(table: &[OpRow], name: &str, kind: Kind) -> Option<Op>
+    requires { IsTable table.now }
+    ensures { (o : Op) → (result ≡ Some o) ↔ ((name_of o ≡ name.now) × IsTaken o kind) }
+{
+    first_found(table, name, kind)
+}
+
+/// The operator of the first row that has this name and is taken in this kind of nets.
+fn first_found(rows: &[OpRow], name: &str, kind: Kind) -> Option<Op>
+    ensures { result ≡ found_in name.now kind rows.now }
+{
+    for row in rows {
+        if row.name == name && has(row.from, kind) {
+            return Some(row.op);
+        }
+    }
+    None
+}
+
+/// Whether nets of the second kind have what the first kind has.
+fn has(from: Kind, kind: Kind) -> bool
+    ensures { result ≡ is_taken from kind }
+{
+    match (from, kind) {
+        (Kind::Symmetric, Kind::Symmetric) => true,
+        (Kind::Symmetric, Kind::HighLevel) => true,
+        (Kind::HighLevel, Kind::HighLevel) => true,
+        _ => false,
+    }
+}

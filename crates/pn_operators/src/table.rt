@@ -1,0 +1,45 @@
+ghost use Rattle.std.specs.Prelude.{◌≡◌, ◌↔◌, Some};
+ghost use Rattle.pn_operators.specs.Operators.{name_of, IsTaken};
+ghost use Rattle.pn_operators.specs.Rows.{TellsOf};
+ghost use Rattle.pn_operators.specs.declared.op.Op.{Op};
+
+use crate::search::find_in;
+use crate::{Op, OpRow, with_rows};
+use pn_faults::Kind;
+
+macro_rules! as_table {
+    (; $($op:ident $name:literal $from:ident $least:literal $most:tt $rule:ident),*) => {
+        [$(OpRow { op: Op::$op, name: $name, from: Kind::$from, least: $least, most: $most }),*]
+    };
+}
+
+macro_rules! as_names {
+    ($value:expr; $($op:ident $name:literal $from:ident $least:literal $most:tt $rule:ident),*) => {
+        match $value { $(Op::$op => $name),* }
+    };
+}
+
+/// The operators in their order, with all that is said of each in one row.
+pub const OP_TABLE: [OpRow; 20] = with_rows!(as_table);
+
+/// The operator whose element has this name, where nets of this kind have it. Takes no memory.
+pub fn find_op(name: &str, kind: Kind) -> Option<Op>
+    ensures { (o : Op) → (result ≡ Some o) ↔ ((name_of o ≡ name.now) × IsTaken o kind) }
+{
+    find_in(&OP_TABLE, name, kind)
+}
+
+/// The name of the operator's element. Takes no memory.
+pub fn op_name(op: Op) -> &'static str
+    ensures { result.now ≡ name_of op }
+{
+    with_rows!(as_names, op)
+}
+
+/// The operator's row of the table. Takes no memory.
+pub fn row_of(op: Op) -> OpRow
+    ensures operator { result.op ≡ op }
+    ensures tells { TellsOf result }
+{
+    OP_TABLE[op as usize]
+}
