@@ -1,0 +1,10 @@
+pub mod State
+pub mod Rest
+pub mod Step
+pub mod Characters
+pub mod Viable
+pub mod Places
+pub mod Modes
+pub mod Open
+pub mod Fed
+pub mod Reading

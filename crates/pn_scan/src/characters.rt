@@ -1,0 +1,109 @@
+//! Characters in UTF-8, byte by byte.
+
+ghost use Rattle.std.specs.Prelude.{◌≡◌, ◌∷◌, []};
+ghost use Rattle.std.specs.Option.{option_map};
+ghost use Rattle.pn_scan.specs.Characters.{is_further, begin_three, begin_four, is_last_pair, character_behind, character_step};
+ghost use Rattle.pn_scan.specs.Open.{open_bytes};
+
+/// The bytes of a character that is not whole yet, if any.
+#[derive(Clone, Copy)]
+pub(crate) enum Open {
+    Nothing,
+    One(u8),
+    Two(u8, u8),
+    Three(u8, u8, u8),
+}
+
+/// A byte behind the first of a character.
+fn is_further_byte(byte: u8) -> bool
+    ensures { result ≡ is_further byte }
+{
+    0x80 <= byte && byte <= 0xBF
+}
+
+/// The first two bytes of a character of three bytes.
+fn begins_three(a: u8, b: u8) -> bool
+    ensures { result ≡ begin_three a b }
+{
+    match a {
+        0xE0 => 0xA0 <= b && b <= 0xBF,
+        0xED => 0x80 <= b && b <= 0x9F,
+        _ => 0xE1 <= a && a <= 0xEF && is_further_byte(b),
+    }
+}
+
+/// The first two bytes of a character of four bytes.
+fn begins_four(a: u8, b: u8) -> bool
+    ensures { result ≡ begin_four a b }
+{
+    match a {
+        0xF0 => 0x90 <= b && b <= 0xBF,
+        0xF4 => 0x80 <= b && b <= 0x8F,
+        _ => 0xF1 <= a && a <= 0xF3 && is_further_byte(b),
+    }
+}
+
+/// U+FFFE and U+FFFF are no characters of a document.
+fn is_forbidden(a: u8, b: u8, c: u8) -> bool
+    ensures { result ≡ is_last_pair a b c }
+{
+    a == 0xEF && b == 0xBF && c > 0xBD
+}
+
+fn first(a: u8) -> Option<Open>
+    ensures { option_map open_bytes result ≡ character_behind (a ∷ []) }
+{
+    match a {
+        9 | 10 | 13 => Some(Open::Nothing),
+        0x20..=0x7F => Some(Open::Nothing),
+        0xC2..=0xF4 => Some(Open::One(a)),
+        _ => None,
+    }
+}
+
+fn second(a: u8, b: u8) -> Option<Open>
+    ensures { option_map open_bytes result ≡ character_behind (a ∷ b ∷ []) }
+{
+    if 0xC2 <= a && a <= 0xDF && is_further_byte(b) {
+        return Some(Open::Nothing);
+    }
+    if begins_three(a, b) || begins_four(a, b) {
+        return Some(Open::Two(a, b));
+    }
+    None
+}
+
+fn third(a: u8, b: u8, c: u8) -> Option<Open>
+    ensures { option_map open_bytes result ≡ character_behind (a ∷ b ∷ c ∷ []) }
+{
+    if begins_three(a, b) && !is_forbidden(a, b, c) && is_further_byte(c) {
+        return Some(Open::Nothing);
+    }
+    if begins_four(a, b) && is_further_byte(c) {
+        return Some(Open::Three(a, b, c));
+    }
+    None
+}
+
+fn fourth(a: u8, b: u8, c: u8, d: u8) -> Option<Open>
+    ensures { option_map open_bytes result ≡ character_behind (a ∷ b ∷ c ∷ d ∷ []) }
+{
+    if begins_four(a, b) && is_further_byte(c) && is_further_byte(d) {
+        return Some(Open::Nothing);
+    }
+    None
+}
+
+impl Open {
+    /// What is open behind one more byte, or `None` where no document goes on so.
+    pub(crate) fn next(self, byte: u8) -> Option<Open>
+        ensures { option_map open_bytes result ≡ character_step (open_bytes self) byte }
+    {
+        match self {
+            Open::Nothing => first(byte),
+            Open::One(a) => second(a, byte),
+            Open::Two(a, b) => third(a, b, byte),
+            Open::Three(a, b, c) => fourth(a, b, c, byte),
+        }
+    }
+}

@@ -1,0 +1,255 @@
+//! The XML declaration (XML 1.0, 2.8).
+
+ghost use Rattle.std.specs.Prelude.{◌≡◌, ◌==◌, ◌&&◌, ◌++◌, ◌∷◌, [], true, map, OnOk, IfSome, IfOk};
+ghost use Rattle.std.specs.Char.{to_ascii_lowercase};
+ghost use Rattle.std.specs.List.{list_all};
+ghost use Rattle.std.specs.Str.{bytes_eq};
+ghost use Rattle.std.specs.Option.{option_map};
+ghost use Rattle.pn_scan.specs.State.{Place, before, before_part_equals, behind_part_equals};
+ghost use Rattle.pn_tree.specs.Characters.{is_within};
+ghost use Rattle.pn_markup.specs.Declaration.{is_version};
+ghost use Rattle.pn_scan.specs.Rest.{may_come, may_end, stage_behind, is_part_value};
+ghost use Rattle.pn_scan.specs.Step.{step, step_declaration, step_part, part_begins, is_part_front, is_version_front};
+ghost use Rattle.pn_scan.specs.Modes.{state_of, stage_of, part_of, Fits};
+
+use crate::bytes::{is_quote_byte, is_space_byte};
+use crate::mode::{Mode, Part, Stage, Then};
+use crate::reference::is_front;
+use std::alloc::{AllocError, Global};
+
+/// Whether a part may come at a stage.
+fn may_begin(stage: Stage, part: Part) -> bool
+    ensures { result ≡ may_come (stage_of stage) (part_of part) }
+{
+    match (stage, part) {
+        (Stage::All, Part::Version) => true,
+        (Stage::FromEncoding, Part::Encoding) => true,
+        (Stage::FromEncoding, Part::Standalone) => true,
+        (Stage::FromStandalone, Part::Standalone) => true,
+        _ => false,
+    }
+}
+
+/// Whether the declaration may end at a stage: behind its version.
+fn may_close(stage: Stage) -> bool
+    ensures { result ≡ may_end (stage_of stage) }
+{
+    !matches!(stage, Stage::All)
+}
+
+/// Which parts may still come behind a part.
+fn next_stage(part: Part) -> Stage
+    ensures { stage_of result ≡ stage_behind (part_of part) }
+{
+    match part {
+        Part::Version => Stage::FromEncoding,
+        Part::Encoding => Stage::FromStandalone,
+        Part::Standalone => Stage::Nothing,
+    }
+}
+
+/// A byte with which the declaration ends, up to its `>`.
+fn closes(stage: Stage, byte: u8) -> bool
+    ensures { result ≡ ((byte == 63) && may_end (stage_of stage)) }
+{
+    byte == b'?' && may_close(stage)
+}
+
+/// The first byte of the word of a part.
+fn begin_part(stage: Stage, byte: u8) -> Option<Mode>
+    ensures step { (p : Place) → option_map (state_of p) result ≡ part_begins (stage_of stage) byte }
+    ensures fits { (p : Place) → p ≡ before → IfSome result (Fits p) }
+{
+    if byte == b'v' && may_begin(stage, Part::Version) {
+        return Some(Mode::Due {
+            left: b"ersion",
+            then: Then::BeforeEquals(Part::Version),
+        });
+    }
+    if byte == b'e' && may_begin(stage, Part::Encoding) {
+        return Some(Mode::Due {
+            left: b"ncoding",
+            then: Then::BeforeEquals(Part::Encoding),
+        });
+    }
+    if byte == b's' && may_begin(stage, Part::Standalone) {
+        return Some(Mode::Due {
+            left: b"tandalone",
+            then: Then::BeforeEquals(Part::Standalone),
+        });
+    }
+    None
+}
+
+/// A byte of the declaration behind a part of it, or behind its beginning.
+pub(crate) fn declaration(stage: Stage, spaced: bool, byte: u8) -> Option<Mode>
+    ensures step { (p : Place) → p ≡ before → option_map (state_of p) result ≡ step_declaration (stage_of stage) spaced byte }
+    ensures fits { (p : Place) → p ≡ before → IfSome result (Fits p) }
+{
+    if is_space_byte(byte) {
+        return Some(Mode::Declaration {
+            stage,
+            spaced: true,
+        });
+    }
+    if closes(stage, byte) {
+        return Some(Mode::Due {
+            left: b">",
+            then: Then::Item,
+        });
+    }
+    if spaced {
+        return begin_part(stage, byte);
+    }
+    None
+}
+
+/// A byte behind the word of a part.
+pub(crate) fn part_equals(part: Part, at: u64, byte: u8) -> Option<Mode>
+    ensures step { (p : Place) → option_map (state_of p) result ≡ step (before_part_equals (part_of part)) at byte }
+    ensures fits { (p : Place) → p ≡ before → IfSome result (Fits p) }
+{
+    if is_space_byte(byte) {
+        return Some(Mode::BeforePartEquals { part });
+    }
+    if byte == b'=' {
+        return Some(Mode::BehindPartEquals { part });
+    }
+    None
+}
+
+/// A byte behind the `=` of a part.
+pub(crate) fn part_quote(alloc: Global, part: Part, at: u64, byte: u8) -> Option<Mode>
+    ensures step { (p : Place) → option_map (state_of p) result ≡ step (behind_part_equals (part_of part)) at byte }
+    ensures fits { (p : Place) → p ≡ before → IfSome result (Fits p) }
+{
+    if is_space_byte(byte) {
+        return Some(Mode::BehindPartEquals { part });
+    }
+    if is_quote_byte(byte) {
+        return Some(Mode::PartValue {
+            part,
+            quote: byte,
+            value: Vec::new(alloc),
+        });
+    }
+    None
+}
+
+/// Whether these are decimal digits, one at least.
+fn are_version_digits(bytes: &[u8]) -> bool
+    ensures { result ≡ list_all (is_within 48 57) bytes.now }
+{
+    bytes.iter().all(|byte| byte.is_ascii_digit())
+}
+
+/// Whether a byte goes on with what begins a version.
+fn goes_on_version(value: &[u8], byte: u8) -> bool
+    requires { is_version_front value.now ≡ true }
+    ensures { result ≡ is_version_front (value.now ++ byte ∷ []) }
+{
+    match value.len() {
+        0 => byte == b'1',
+        1 => byte == b'.',
+        _ => byte.is_ascii_digit(),
+    }
+}
+
+/// Whether a value is a version (2.8, VersionNum).
+fn is_version_whole(value: &[u8]) -> bool
+    ensures { result ≡ is_version value.now }
+{
+    match value {
+        [one, dot, first, digits @ ..] => {
+            *one == b'1' && *dot == b'.' && first.is_ascii_digit() && are_version_digits(digits)
+        }
+        _ => false,
+    }
+}
+
+/// Bytes in lower case.
+fn lower_case(alloc: Global, bytes: &[u8]) -> Result<Vec<u8>, AllocError>
+    ensures { IfOk result (λ v. v.items ≡ map to_ascii_lowercase bytes.now) }
+{
+    bytes
+        .iter()
+        .map(|byte| byte.to_ascii_lowercase())
+        .collect(alloc)
+}
+
+/// Puts a byte to the value of a part; says whether one begins so.
+fn put_part_byte(
+    alloc: Global,
+    part: Part,
+    value: &mut Vec<u8>,
+    byte: u8,
+) -> Result<bool, AllocError>
+    requires { is_part_front (part_of part) value.old.items ≡ true }
+    ensures put { OnOk result (value.new.items ≡ value.old.items ++ byte ∷ []) }
+    ensures begun { IfOk result (λ b. b ≡ is_part_front (part_of part) (value.old.items ++ byte ∷ [])) }
+{
+    match part {
+        Part::Version => {
+            let goes_on = goes_on_version(value, byte);
+            value.push(byte)?;
+            Ok(goes_on)
+        }
+        Part::Encoding => {
+            value.push(byte)?;
+            let lower = lower_case(alloc, value)?;
+            Ok(is_front(&lower, b"utf-8") || is_front(&lower, b"us-ascii"))
+        }
+        Part::Standalone => {
+            value.push(byte)?;
+            Ok(is_front(value, b"yes") || is_front(value, b"no"))
+        }
+    }
+}
+
+/// Whether two byte lists are the same.
+fn is_same(bytes: &[u8], other: &[u8]) -> bool
+    ensures { result ≡ bytes_eq bytes.now other.now }
+{
+    bytes == other
+}
+
+/// Whether a value is that of a part.
+fn is_part_whole(alloc: Global, part: Part, value: &[u8]) -> Result<bool, AllocError>
+    ensures { IfOk result (λ b. b ≡ is_part_value (part_of part) value.now) }
+{
+    match part {
+        Part::Version => Ok(is_version_whole(value)),
+        Part::Encoding => {
+            let lower = lower_case(alloc, value)?;
+            Ok(is_same(&lower, b"utf-8") || is_same(&lower, b"us-ascii"))
+        }
+        Part::Standalone => Ok(is_same(value, b"yes") || is_same(value, b"no")),
+    }
+}
+
+/// A byte of the value of a part.
+pub(crate) fn part_value(
+    alloc: Global,
+    part: Part,
+    quote: u8,
+    mut value: Vec<u8>,
+    byte: u8,
+) -> Result<Option<Mode>, AllocError>
+    requires { is_part_front (part_of part) value.items ≡ true }
+    ensures step { IfOk result (λ m. (p : Place) → option_map (state_of p) m ≡ step_part (part_of part) quote value.items byte) }
+    ensures fits { IfOk result (λ m. (p : Place) → p ≡ before → IfSome m (Fits p)) }
+{
+    if byte == quote {
+        if is_part_whole(alloc, part, &value)? {
+            return Ok(Some(Mode::Declaration {
+                stage: next_stage(part),
+                spaced: false,
+            }));
+        }
+        return Ok(None);
+    }
+    if put_part_byte(alloc, part, &mut value, byte)? {
+        return Ok(Some(Mode::PartValue { part, quote, value }));
+    }
+    Ok(None)
+}

@@ -1,0 +1,21 @@
+//! Markup in pieces: bytes become one element tree, or the offset at which no document can go on.
+#![tactic(auto)]
+
+mod advance;
+mod attribute;
+mod bytes;
+mod characters;
+mod declaration;
+pub mod laws;
+mod misc;
+mod mode;
+mod open_tree;
+mod reference;
+mod run;
+mod scanner;
+mod tag;
+
+pub use scanner::{ScanFault, Scanner};
+
+#[cfg(test)]
+mod tests;

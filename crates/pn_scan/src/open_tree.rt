@@ -1,0 +1,185 @@
+//! The tree as far as it was read.
+
+ghost use Rattle.std.specs.Prelude.{◌≡◌, ◌<◌, ◌-◌, true, false, [], suc, is_some, slice_get, IfSome, OnOk};
+ghost use Rattle.pn_tree.specs.Characters.{is_name, is_text};
+ghost use Rattle.pn_tree.specs.Building.{with_attr, with_text};
+ghost use Rattle.pn_tree.specs.Elements.{attr_value};
+ghost use Rattle.pn_markup.specs.Tags.{named};
+ghost use Rattle.pn_scan.specs.State.{before, within};
+ghost use Rattle.pn_scan.specs.Places.{place_of, is_inside, levels_of, inner_of, outer_of, levels_for, outer_for, HasRoom, IsRoom, IsWhere, behind_place, Belongs};
+
+use indexmap::IndexSet;
+use pn_text::Text;
+use pn_tree::{Builder, Tree};
+use std::alloc::{AllocError, Global};
+
+/// Where an item stands: before the root, within an open element, or behind the root.
+#[derive(Clone, Copy)]
+pub(crate) enum Where {
+    Before,
+    Within,
+    Behind,
+}
+
+/// A tree under way: its builder, the names of the open elements, the innermost last, the names
+/// of the attributes of the innermost one, and whether the root is ended.
+#[derive(Drop)]
+pub(crate) struct OpenTree {
+    alloc: Global,
+    builder: Builder,
+    names: Vec<Text>,
+    attributes: IndexSet<String>,
+    ended: bool,
+}
+
+/// Bytes that are a text, as one. Takes no memory.
+pub(crate) fn as_text(bytes: &[u8]) -> &str
+    requires { is_text bytes.now ≡ true }
+    ensures { result.now ≡ bytes.now }
+{
+    match str::from_utf8(bytes) {
+        Ok(text) => text,
+        Err(_) => unreachable!(),
+    }
+}
+
+fn byte_at(bytes: &[u8], index: usize) -> Option<u8>
+    ensures value { result ≡ slice_get bytes.now index }
+    ensures within { IfSome result (λ _. index < usize.MAX) }
+{
+    if index < bytes.len() {
+        return Some(bytes[index]);
+    }
+    None
+}
+
+impl OpenTree {
+    /// Nothing was read yet. Takes no memory.
+    pub(crate) fn new(alloc: Global) -> OpenTree
+        ensures belongs { Belongs result }
+        ensures place { place_of result ≡ before }
+    {
+        OpenTree {
+            alloc,
+            builder: Builder::new(alloc),
+            names: Vec::new(alloc),
+            attributes: IndexSet::new(alloc),
+            ended: false,
+        }
+    }
+
+    /// Where the next item stands.
+    pub(crate) fn place(&self) -> Where
+        requires { Belongs self.now }
+        ensures { IsWhere result (place_of self.now) }
+    {
+        if self.ended {
+            return Where::Behind;
+        }
+        if self.names.is_empty() {
+            return Where::Before;
+        }
+        Where::Within
+    }
+
+    /// Whether an element may begin here.
+    pub(crate) fn has_room(&self) -> bool
+        requires { Belongs self.now }
+        ensures { IsRoom result (place_of self.now) }
+    {
+        !self.ended && self.names.len() < 256
+    }
+
+    /// Begins an element whose start tag has the offset `at`.
+    pub(crate) fn begin(&mut self, name: &[u8], at: u64) -> Result<(), AllocError>
+        requires belongs { Belongs self.old }
+        requires name { is_name name.now ≡ true }
+        requires room { HasRoom (place_of self.old) }
+        ensures place { OnOk result
+            (place_of self.new ≡ within (levels_for (place_of self.old)) (named name.now at) (outer_for (place_of self.old))) }
+        ensures belongs { OnOk result (Belongs self.new) }
+    {
+        let name = as_text(name);
+        self.names.push(Text::from_str(self.alloc, name)?)?;
+        self.attributes.clear();
+        self.builder.begin(name, at)?;
+        Ok(())
+    }
+
+    /// Gives the innermost open element an attribute.
+    pub(crate) fn attr(&mut self, name: &[u8], value: &[u8]) -> Result<(), AllocError>
+        requires belongs { Belongs self.old }
+        requires inside { is_inside (place_of self.old) ≡ true }
+        requires name { is_name name.now ≡ true }
+        requires value { is_text value.now ≡ true }
+        requires before_kids { (inner_of (place_of self.old)).kids ≡ [] }
+        requires is_new { is_some (attr_value name.now (inner_of (place_of self.old)).attrs) ≡ false }
+        ensures place { OnOk result (place_of self.new
+            ≡ within (levels_of (place_of self.old)) (with_attr name.now value.now (inner_of (place_of self.old))) (outer_of (place_of self.old))) }
+        ensures belongs { OnOk result (Belongs self.new) }
+    {
+        let name = as_text(name);
+        self.attributes.insert(String::from_str(self.alloc, name)?)?;
+        self.builder.attr(name, as_text(value))?;
+        Ok(())
+    }
+
+    /// Whether the innermost open element, which has no kids yet, has an attribute of this name.
+    pub(crate) fn has_attr(&self, name: &[u8]) -> bool
+        requires belongs { Belongs self.now }
+        requires inside { is_inside (place_of self.now) ≡ true }
+        requires name { is_text name.now ≡ true }
+        requires before_kids { (inner_of (place_of self.now)).kids ≡ [] }
+        ensures { result ≡ is_some (attr_value name.now (inner_of (place_of self.now)).attrs) }
+    {
+        self.attributes.contains(as_text(name))
+    }
+
+    /// Gives the innermost open element a text.
+    pub(crate) fn text(&mut self, text: &[u8]) -> Result<(), AllocError>
+        requires belongs { Belongs self.old }
+        requires inside { is_inside (place_of self.old) ≡ true }
+        requires text { is_text text.now ≡ true }
+        ensures place { OnOk result (place_of self.new
+            ≡ within (levels_of (place_of self.old)) (with_text text.now (inner_of (place_of self.old))) (outer_of (place_of self.old))) }
+        ensures belongs { OnOk result (Belongs self.new) }
+    {
+        self.builder.text(as_text(text))?;
+        Ok(())
+    }
+
+    /// A byte of the name of the innermost open element.
+    pub(crate) fn name_byte(&self, index: usize) -> Option<u8>
+        requires belongs { Belongs self.now }
+        requires inside { is_inside (place_of self.now) ≡ true }
+        ensures value { result ≡ slice_get (inner_of (place_of self.now)).name index }
+        ensures within { IfSome result (λ _. index < usize.MAX) }
+    {
+        match self.names.last() {
+            Some(name) => byte_at(name.as_str().as_bytes(), index),
+            None => unreachable!(),
+        }
+    }
+
+    /// Ends the innermost open element. Takes no memory.
+    pub(crate) fn end(&mut self)
+        requires belongs { Belongs self.old }
+        requires inside { is_inside (place_of self.old) ≡ true }
+        ensures place { place_of self.new
+            ≡ behind_place (suc (levels_of (place_of self.old))) (outer_of (place_of self.old)) (inner_of (place_of self.old)) }
+        ensures belongs { Belongs self.new }
+    {
+        self.builder.end();
+        self.names.pop();
+        self.ended = self.names.is_empty();
+    }
+
+    /// The tree, behind its root. Takes no memory.
+    pub(crate) fn finish(self) -> Tree
+        requires belongs { Belongs self }
+        requires ended { IsWhere Where.Behind (place_of self) }
+        ensures { result ≡ inner_of (place_of self) }
+    {
+        self.builder.finish()
+    }
+}

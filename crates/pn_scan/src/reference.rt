@@ -1,0 +1,248 @@
+//! References (XML 1.0, 4.1 and 4.6).
+
+ghost use Rattle.std.specs.Prelude.{◌≡◌, ◌≤◌, ◌⊎◌, true, false, None, Some, if◌then◌else◌, string_bytes, OnOk, IfSome, IfOk, MatchOption};
+ghost use Rattle.std.specs.Char.{digit_value};
+ghost use Rattle.std.specs.Option.{option_map};
+ghost use Rattle.pn_tree.specs.Characters.{is_text, is_character, utf8_of};
+ghost use Rattle.pn_markup.specs.Bytes.{begins_with};
+ghost use Rattle.pn_markup.specs.References.{is_digit, entity_text};
+ghost use Rattle.pn_scan.specs.State.{behind_reference, at_reference, at_number};
+ghost use Rattle.pn_scan.specs.Step.{step, step_entity, step_number, entity_of, is_entity_front};
+ghost use Rattle.pn_scan.specs.Places.{place_of, Belongs};
+ghost use Rattle.pn_scan.specs.Modes.{state_of, holder_of, FitsHolder, FitsNumber, Fits};
+
+use crate::mode::{Holder, Mode};
+use crate::open_tree::OpenTree;
+use std::alloc::{AllocError, Global};
+
+/// How it goes on behind a reference that stands for this text.
+fn behind(tree: &mut OpenTree, holder: Holder, text: &[u8]) -> Result<Mode, AllocError>
+    requires belongs { Belongs tree.old }
+    requires holder { FitsHolder (place_of tree.old) holder }
+    requires text { is_text text.now ≡ true }
+    ensures step { IfOk result (λ m. state_of (place_of tree.new) m ≡ behind_reference (holder_of (place_of tree.old) holder) text.now) }
+    ensures fits { IfOk result (Fits (place_of tree.new)) }
+    ensures belongs { OnOk result (Belongs tree.new) }
+{
+    match holder {
+        Holder::Content => {
+            tree.text(text)?;
+            Ok(Mode::Item)
+        }
+        Holder::Value {
+            name,
+            quote,
+            mut value,
+        } => {
+            value.extend_from_slice(text)?;
+            Ok(Mode::Value {
+                name,
+                quote,
+                value,
+                cr: false,
+            })
+        }
+    }
+}
+
+/// The text that an entity stands for, by its name and the `;`.
+fn entity_of_name(part: &[u8]) -> Option<&'static [u8]>
+    ensures value { option_map (λ t. t.now) result ≡ option_map entity_text (entity_of part.now) }
+    ensures texts { IfSome result (λ t. is_text t.now ≡ true) }
+{
+    if part == b"lt;".as_slice() {
+        return Some(b"<");
+    }
+    if part == b"gt;".as_slice() {
+        return Some(b">");
+    }
+    if part == b"amp;".as_slice() {
+        return Some(b"&");
+    }
+    if part == b"apos;".as_slice() {
+        return Some(b"'");
+    }
+    if part == b"quot;".as_slice() {
+        return Some(b"\"");
+    }
+    None
+}
+
+/// Whether `whole` begins with `part`.
+pub(crate) fn is_front(part: &[u8], whole: &[u8]) -> bool
+    ensures { result ≡ begins_with part.now whole.now }
+{
+    whole.starts_with(part)
+}
+
+/// Whether the name of an entity and the `;` begin so.
+fn is_entity_begun(part: &[u8]) -> bool
+    ensures { result ≡ is_entity_front part.now }
+{
+    is_front(part, b"lt;")
+        || is_front(part, b"gt;")
+        || is_front(part, b"amp;")
+        || is_front(part, b"apos;")
+        || is_front(part, b"quot;")
+}
+
+/// A byte of the name of an entity.
+pub(crate) fn entity(
+    tree: &mut OpenTree,
+    holder: Holder,
+    mut part: Vec<u8>,
+    byte: u8,
+) -> Result<Option<Mode>, AllocError>
+    requires belongs { Belongs tree.old }
+    requires holder { FitsHolder (place_of tree.old) holder }
+    ensures step { IfOk result (λ m. option_map (state_of (place_of tree.new)) m ≡ step_entity (holder_of (place_of tree.old) holder) part.items byte) }
+    ensures fits { IfOk result (λ m. IfSome m (Fits (place_of tree.new))) }
+    ensures belongs { OnOk result (Belongs tree.new) }
+{
+    part.push(byte)?;
+    if let Some(text) = entity_of_name(&part) {
+        let mode = behind(tree, holder, text)?;
+        return Ok(Some(mode));
+    }
+    if is_entity_begun(&part) {
+        return Ok(Some(Mode::Entity { holder, part }));
+    }
+    Ok(None)
+}
+
+/// A byte behind `&`.
+pub(crate) fn reference(
+    alloc: Global,
+    tree: &mut OpenTree,
+    holder: Holder,
+    at: u64,
+    byte: u8,
+) -> Result<Option<Mode>, AllocError>
+    requires belongs { Belongs tree.old }
+    requires holder { FitsHolder (place_of tree.old) holder }
+    ensures step { IfOk result (λ m. option_map (state_of (place_of tree.new)) m ≡ step (at_reference (holder_of (place_of tree.old) holder)) at byte) }
+    ensures fits { IfOk result (λ m. IfSome m (Fits (place_of tree.new))) }
+    ensures belongs { OnOk result (Belongs tree.new) }
+{
+    if byte != b'#' {
+        return entity(tree, holder, Vec::new(alloc), byte);
+    }
+    Ok(Some(Mode::NumberSign { holder }))
+}
+
+/// Whether a number is that of a character that a document may have.
+fn is_character_number(number: u32) -> bool
+    ensures { result ≡ is_character number }
+{
+    match number {
+        9 | 10 | 13 => true,
+        0x20..=0xD7FF => true,
+        0xE000..=0xFFFD => true,
+        0x1_0000..=0x10_FFFF => true,
+        _ => false,
+    }
+}
+
+/// A character in UTF-8.
+fn character(alloc: Global, number: u32) -> Result<String, AllocError>
+    requires { is_character number ≡ true }
+    ensures { IfOk result (λ text. string_bytes text ≡ utf8_of number) }
+{
+    let mut text = String::new(alloc);
+    match char::from_u32(number) {
+        Some(character) => text.push(character)?,
+        None => unreachable!(),
+    }
+    Ok(text)
+}
+
+/// A digit to a base.
+fn digit(base: u32, byte: u8) -> Option<u32>
+    requires { (base ≡ 10) ⊎ (base ≡ 16) }
+    ensures { MatchOption result (is_digit base byte ≡ false) (λ d. (is_digit base byte ≡ true) × (d ≡ digit_value byte) × (d ≤ 15)) }
+{
+    char::from(byte).to_digit(base)
+}
+
+/// The `;` behind a number.
+fn number_end(
+    alloc: Global,
+    tree: &mut OpenTree,
+    holder: Holder,
+    number: u32,
+) -> Result<Option<Mode>, AllocError>
+    requires belongs { Belongs tree.old }
+    requires holder { FitsHolder (place_of tree.old) holder }
+    ensures step { IfOk result (λ m. option_map (state_of (place_of tree.new)) m
+        ≡ (if is_character number then Some (behind_reference (holder_of (place_of tree.old) holder) (utf8_of number)) else None)) }
+    ensures fits { IfOk result (λ m. IfSome m (Fits (place_of tree.new))) }
+    ensures belongs { OnOk result (Belongs tree.new) }
+{
+    if !is_character_number(number) {
+        return Ok(None);
+    }
+    let text = character(alloc, number)?;
+    let mode = behind(tree, holder, text.as_bytes())?;
+    Ok(Some(mode))
+}
+
+/// A byte of a number.
+pub(crate) fn number(
+    alloc: Global,
+    tree: &mut OpenTree,
+    holder: Holder,
+    base: u32,
+    number: u32,
+    any: bool,
+    byte: u8,
+) -> Result<Option<Mode>, AllocError>
+    requires belongs { Belongs tree.old }
+    requires holder { FitsHolder (place_of tree.old) holder }
+    requires number { FitsNumber base number }
+    ensures step { IfOk result (λ m. option_map (state_of (place_of tree.new)) m
+        ≡ step_number (holder_of (place_of tree.old) holder) base number any byte) }
+    ensures fits { IfOk result (λ m. IfSome m (Fits (place_of tree.new))) }
+    ensures belongs { OnOk result (Belongs tree.new) }
+{
+    if let Some(digit) = digit(base, byte) {
+        let number = number * base + digit;
+        if number > 0x10_FFFF {
+            return Ok(None);
+        }
+        return Ok(Some(Mode::Number {
+            holder,
+            base,
+            number,
+            any: true,
+        }));
+    }
+    if byte == b';' && any {
+        return number_end(alloc, tree, holder, number);
+    }
+    Ok(None)
+}
+
+/// A byte behind `&#`.
+pub(crate) fn number_sign(
+    alloc: Global,
+    tree: &mut OpenTree,
+    holder: Holder,
+    at: u64,
+    byte: u8,
+) -> Result<Option<Mode>, AllocError>
+    requires belongs { Belongs tree.old }
+    requires holder { FitsHolder (place_of tree.old) holder }
+    ensures step { IfOk result (λ m. option_map (state_of (place_of tree.new)) m ≡ step (at_number (holder_of (place_of tree.old) holder)) at byte) }
+    ensures fits { IfOk result (λ m. IfSome m (Fits (place_of tree.new))) }
+    ensures belongs { OnOk result (Belongs tree.new) }
+{
+    if byte != b'x' {
+        return number(alloc, tree, holder, 10, 0, false, byte);
+    }
+    Ok(Some(Mode::Number {
+        holder,
+        base: 16,
+        number: 0,
+        any: false,
+    }))
+}

@@ -1,0 +1,204 @@
+//! Content: runs of characters, CDATA sections, and what stands between two items.
+
+ghost use Rattle.std.specs.Prelude.{◌≡◌, ◌<◌, ◌++◌, ◌==◌, true, OnOk, IfSome, IfOk};
+ghost use Rattle.std.specs.Option.{option_map};
+ghost use Rattle.pn_tree.specs.Characters.{is_text};
+ghost use Rattle.pn_scan.specs.State.{Place, behind_item, in_section, no_bracket};
+ghost use Rattle.pn_scan.specs.Rest.{brackets as bracket_bytes};
+ghost use Rattle.pn_scan.specs.Step.{step, step_run, step_section, bracket_in, line_text, brackets_behind, cr_behind};
+ghost use Rattle.pn_scan.specs.Places.{place_of, is_inside, levels_of, inner_of, outer_of, Belongs};
+ghost use Rattle.pn_scan.specs.Modes.{state_of, brackets_of, step_behind, Fits};
+
+use crate::bytes::is_space_byte;
+use crate::misc::outside;
+use crate::mode::{Brackets, Holder, Mode};
+use crate::open_tree::{OpenTree, Where};
+use std::alloc::{AllocError, Global};
+
+/// The brackets that a run ends in behind one more byte.
+fn next_brackets(brackets: Brackets, byte: u8) -> Brackets
+    ensures { brackets_of result ≡ brackets_behind (brackets_of brackets) byte }
+{
+    if byte != b']' {
+        return Brackets::Zero;
+    }
+    match brackets {
+        Brackets::Zero => Brackets::One,
+        _ => Brackets::Two,
+    }
+}
+
+/// Puts to a text what a byte stands for, behind a CR or not (XML 1.0, 2.11).
+fn put_line_byte(text: &mut Vec<u8>, cr: bool, byte: u8) -> Result<(), AllocError>
+    ensures { OnOk result (text.new.items ≡ text.old.items ++ line_text cr byte) }
+{
+    if byte == b'\n' && cr {
+        return Ok(());
+    }
+    text.push(if byte == b'\r' { b'\n' } else { byte })?;
+    Ok(())
+}
+
+/// A byte of a run.
+pub(crate) fn run(
+    tree: &mut OpenTree,
+    mut text: Vec<u8>,
+    brackets: Brackets,
+    cr: bool,
+    at: u64,
+    byte: u8,
+) -> Result<Option<Mode>, AllocError>
+    requires belongs { Belongs tree.old }
+    requires inside { is_inside (place_of tree.old) ≡ true }
+    requires whole { byte < 128 → is_text text.items ≡ true }
+    ensures step { IfOk result (λ m. option_map (state_of (place_of tree.new)) m
+        ≡ step_run (levels_of (place_of tree.old)) (inner_of (place_of tree.old)) (outer_of (place_of tree.old)) text.items (brackets_of brackets) cr at byte) }
+    ensures fits { IfOk result (λ m. IfSome m (Fits (place_of tree.new))) }
+    ensures belongs { OnOk result (Belongs tree.new) }
+{
+    if byte == b'<' {
+        tree.text(&text)?;
+        return Ok(Some(Mode::Markup {
+            first: false,
+            begin: at,
+        }));
+    }
+    if byte == b'&' {
+        tree.text(&text)?;
+        return Ok(Some(Mode::Reference {
+            holder: Holder::Content,
+        }));
+    }
+    if byte == b'>' && matches!(brackets, Brackets::Two) {
+        return Ok(None);
+    }
+    put_line_byte(&mut text, cr, byte)?;
+    Ok(Some(Mode::Run {
+        text,
+        brackets: next_brackets(brackets, byte),
+        cr: byte == b'\r',
+    }))
+}
+
+/// A byte behind the root.
+fn behind_root(at: u64, byte: u8) -> Option<Mode>
+    ensures step { (p : Place) → option_map (state_of p) result ≡ step_behind p at byte }
+    ensures fits { (p : Place) → IfSome result (Fits p) }
+{
+    if is_space_byte(byte) {
+        return Some(Mode::Item);
+    }
+    if byte == b'<' {
+        return Some(Mode::Markup {
+            first: false,
+            begin: at,
+        });
+    }
+    None
+}
+
+/// A byte between two items.
+pub(crate) fn item(
+    alloc: Global,
+    tree: &mut OpenTree,
+    at: u64,
+    byte: u8,
+) -> Result<Option<Mode>, AllocError>
+    requires belongs { Belongs tree.old }
+    ensures step { IfOk result (λ m. option_map (state_of (place_of tree.new)) m ≡ step (behind_item (place_of tree.old)) at byte) }
+    ensures fits { IfOk result (λ m. IfSome m (Fits (place_of tree.new))) }
+    ensures belongs { OnOk result (Belongs tree.new) }
+{
+    match tree.place() {
+        Where::Before => Ok(outside(false, at, byte)),
+        Where::Behind => Ok(behind_root(at, byte)),
+        Where::Within => run(tree, Vec::new(alloc), Brackets::Zero, false, at, byte),
+    }
+}
+
+/// Puts brackets that stood behind a text to it.
+fn put_brackets(text: &mut Vec<u8>, brackets: Brackets) -> Result<(), AllocError>
+    ensures { OnOk result (text.new.items ≡ text.old.items ++ bracket_bytes (brackets_of brackets)) }
+{
+    match brackets {
+        Brackets::Zero => Ok(()),
+        Brackets::One => text.extend_from_slice(b"]"),
+        Brackets::Two => text.extend_from_slice(b"]]"),
+    }
+}
+
+/// A bracket in a section: of three the first is text.
+fn bracket(mut text: Vec<u8>, brackets: Brackets, cr: bool) -> Result<Mode, AllocError>
+    ensures step { IfOk result (λ m. (p : Place) → state_of p m
+        ≡ bracket_in (levels_of p) (inner_of p) (outer_of p) text.items (brackets_of brackets) cr) }
+    ensures fits { IfOk result (λ m. (p : Place) → is_inside p ≡ true → Fits p m) }
+{
+    match brackets {
+        Brackets::Zero => Ok(Mode::Section {
+            text,
+            brackets: Brackets::One,
+            cr,
+        }),
+        Brackets::One => Ok(Mode::Section {
+            text,
+            brackets: Brackets::Two,
+            cr,
+        }),
+        Brackets::Two => {
+            text.push(b']')?;
+            Ok(Mode::Section {
+                text,
+                brackets,
+                cr: false,
+            })
+        }
+    }
+}
+
+/// A byte of a section that ends in no bracket.
+fn section_byte(
+    mut text: Vec<u8>,
+    brackets: Brackets,
+    cr: bool,
+    byte: u8,
+) -> Result<Mode, AllocError>
+    ensures step { IfOk result (λ m. (p : Place) → state_of p m
+        ≡ in_section (levels_of p) (inner_of p) (outer_of p)
+        ((text.items ++ bracket_bytes (brackets_of brackets)) ++ line_text (cr_behind (brackets_of brackets) cr) byte) no_bracket (byte == 13)) }
+    ensures fits { IfOk result (λ m. (p : Place) → is_inside p ≡ true → Fits p m) }
+{
+    put_brackets(&mut text, brackets)?;
+    let behind_cr = cr && matches!(brackets, Brackets::Zero);
+    put_line_byte(&mut text, behind_cr, byte)?;
+    Ok(Mode::Section {
+        text,
+        brackets: Brackets::Zero,
+        cr: byte == b'\r',
+    })
+}
+
+/// A byte of a CDATA section.
+pub(crate) fn section(
+    tree: &mut OpenTree,
+    text: Vec<u8>,
+    brackets: Brackets,
+    cr: bool,
+    byte: u8,
+) -> Result<Option<Mode>, AllocError>
+    requires belongs { Belongs tree.old }
+    requires inside { is_inside (place_of tree.old) ≡ true }
+    requires whole { byte < 128 → is_text text.items ≡ true }
+    ensures step { IfOk result (λ m. option_map (state_of (place_of tree.new)) m
+        ≡ step_section (levels_of (place_of tree.old)) (inner_of (place_of tree.old)) (outer_of (place_of tree.old)) text.items (brackets_of brackets) cr byte) }
+    ensures fits { IfOk result (λ m. IfSome m (Fits (place_of tree.new))) }
+    ensures belongs { OnOk result (Belongs tree.new) }
+{
+    if byte == b']' {
+        return Ok(Some(bracket(text, brackets, cr)?));
+    }
+    if byte == b'>' && matches!(brackets, Brackets::Two) {
+        tree.text(&text)?;
+        return Ok(Some(Mode::Item));
+    }
+    Ok(Some(section_byte(text, brackets, cr, byte)?))
+}

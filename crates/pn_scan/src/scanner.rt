@@ -1,0 +1,167 @@
+//! The scanner.
+
+ghost use Rattle.std.specs.Prelude.{◌≡◌, ◌⊎◌, ◌≤◌, ◌++◌, ◌∷◌, ℕ, List, [], length, None, Some, IfOk, MatchResult};
+ghost use Rattle.pn_markup.specs.Document.{IsDocument, IsFront};
+ghost use Rattle.pn_markup.specs.Offsets.{IsOrdered};
+ghost use Rattle.pn_scan.specs.Places.{IsWhere};
+ghost use Rattle.pn_scan.specs.State.{Place};
+ghost use Rattle.pn_scan.specs.Reading.{IsReading, IsBroken, IsTooLong, IsOnlyFront, IsMemory, HasReadTo, HasRead, EndsAt, answer_of, fault_of};
+
+use crate::advance::advance;
+use crate::characters::Open;
+use crate::mode::Mode;
+use crate::open_tree::{OpenTree, Where};
+use pn_outside::limits::BYTES;
+use pn_tree::Tree;
+use std::alloc::{AllocError, Global};
+use std::mem;
+use thiserror::Error;
+
+/// Why a scanner has no tree.
+#[derive(Debug, Clone, Copy, Error)]
+pub enum ScanFault {
+    /// There was no memory.
+    #[error("out of memory")]
+    Memory(AllocError),
+    /// The bytes up to this offset begin a document, and those up to the next don't, or there
+    /// are none.
+    #[error("no document goes on at byte {0}")]
+    Broken(u64),
+    /// There are more bytes than the limit, and as many as that begin a document.
+    #[error("too long")]
+    TooLong,
+}
+
+/// Reads a document from bytes in pieces, in one pass, and builds its tree on the way.
+#[derive(Drop)]
+pub struct Scanner {
+    alloc: Global,
+    tree: OpenTree,
+    mode: Mode,
+    opened: Open,
+    count: u64,
+    fault: Option<ScanFault>,
+}
+
+/// Whether a document ends here.
+fn is_at_end(mode: &Mode, place: Where, opened: Open) -> bool
+    ensures { (p : Place) → IsWhere place p → EndsAt result p mode.now opened }
+{
+    match mode {
+        Mode::Item => matches!(place, Where::Behind) && matches!(opened, Open::Nothing),
+        _ => false,
+    }
+}
+
+impl Scanner {
+    /// A scanner that was fed nothing yet. Takes no memory.
+    pub fn new(alloc: Global) -> Scanner
+        ensures read { HasRead result [] }
+        ensures fault { fault_of result ≡ None }
+    {
+        Scanner {
+            alloc,
+            tree: OpenTree::new(alloc),
+            mode: Mode::Start,
+            opened: Open::Nothing,
+            count: 0,
+            fault: None,
+        }
+    }
+
+    /// Takes a byte; answers the fault that it makes.
+    fn read(&mut self, byte: u8) -> Option<ScanFault>
+        requires { (b : List ℕ) × IsReading self.old.tree self.old.mode self.old.opened self.old.count b }
+        ensures { (b : List ℕ) → IsReading self.old.tree self.old.mode self.old.opened self.old.count b
+            → HasReadTo result self.new.tree self.new.mode self.new.opened self.new.count (b ++ byte ∷ []) }
+    {
+        if self.count == BYTES {
+            return Some(ScanFault::TooLong);
+        }
+        let Some(opened) = self.opened.next(byte) else {
+            return Some(ScanFault::Broken(self.count));
+        };
+        let mode = mem::replace(&mut self.mode, Mode::Start);
+        match advance(self.alloc, &mut self.tree, mode, self.count, byte) {
+            Ok(Some(mode)) => {
+                self.mode = mode;
+                self.opened = opened;
+                self.count += 1;
+                None
+            }
+            Ok(None) => Some(ScanFault::Broken(self.count)),
+            Err(error) => Some(ScanFault::Memory(error)),
+        }
+    }
+
+    /// Takes a byte, where no fault was found yet.
+    fn take(&mut self, byte: u8)
+        requires { (b : List ℕ) × HasRead self.old b }
+        ensures read { (b : List ℕ) → HasRead self.old b → HasRead self.new (b ++ byte ∷ []) }
+        ensures again { (f : ScanFault) → fault_of self.old ≡ Some f → fault_of self.new ≡ Some f }
+    {
+        match self.fault {
+            Some(_) => {}
+            None => self.fault = self.read(byte),
+        }
+    }
+
+    /// The fault that was found, if any.
+    fn answer(&self) -> Result<(), ScanFault>
+        ensures { result ≡ answer_of (fault_of self.now) }
+    {
+        match self.fault {
+            None => Ok(()),
+            Some(fault) => Err(fault),
+        }
+    }
+
+    /// Reads a piece. Where the break of all bytes so far comes before their end and before the
+    /// limit, `Broken` says it; `TooLong` where there are more bytes than the limit, and as many
+    /// as that begin a document. A fault is answered again by each later call.
+    pub fn feed(&mut self, piece: &[u8]) -> Result<(), ScanFault>
+        requires { (b : List ℕ) × HasRead self.old b }
+        ensures read { (b : List ℕ) → HasRead self.old b → HasRead self.new (b ++ piece.now) }
+        ensures again { (f : ScanFault) → fault_of self.old ≡ Some f → fault_of self.new ≡ Some f }
+        ensures answer { result ≡ answer_of (fault_of self.new) }
+        ensures goes { (b : List ℕ) → HasRead self.new b → fault_of self.new ≡ None → (length b ≤ BYTES) × IsFront b }
+        ensures broken { (b : List ℕ) (k : ℕ) → HasRead self.new b → result ≡ Err (ScanFault.Broken k) → IsBroken b k }
+        ensures breaks { (b : List ℕ) (k : ℕ) → HasRead self.new b → IsBroken b k → (result ≡ Err (ScanFault.Broken k)) ⊎ IsMemory result }
+        ensures too_long { (b : List ℕ) → HasRead self.new b → result ≡ Err ScanFault.TooLong → IsTooLong b }
+        ensures longer { (b : List ℕ) → HasRead self.new b → IsTooLong b → (result ≡ Err ScanFault.TooLong) ⊎ IsMemory result }
+    {
+        for byte in piece {
+            self.take(*byte);
+        }
+        self.answer()
+    }
+
+    /// The end, where no fault was found.
+    fn end(self) -> Result<Tree, ScanFault>
+        requires { (b : List ℕ) × IsReading self.tree self.mode self.opened self.count b }
+        ensures ends { (b : List ℕ) → IsReading self.tree self.mode self.opened self.count b
+            → MatchResult result (λ t. IsDocument t b) (λ f. (f ≡ ScanFault.Broken (length b)) × IsOnlyFront b) }
+        ensures ordered { IfOk result IsOrdered }
+    {
+        let place = self.tree.place();
+        if is_at_end(&self.mode, place, self.opened) {
+            return Ok(self.tree.finish());
+        }
+        Err(ScanFault::Broken(self.count))
+    }
+
+    /// The tree that all bytes spell, or `Broken` with their number where they begin a document
+    /// and are none. A fault of `feed` is answered again.
+    pub fn finish(self) -> Result<Tree, ScanFault>
+        requires { (b : List ℕ) × HasRead self b }
+        ensures again { (f : ScanFault) → fault_of self ≡ Some f → result ≡ Err f }
+        ensures ends { (b : List ℕ) → fault_of self ≡ None → HasRead self b
+            → MatchResult result (λ t. IsDocument t b) (λ f. (f ≡ ScanFault.Broken (length b)) × IsOnlyFront b) }
+        ensures ordered { IfOk result IsOrdered }
+    {
+        match self.fault {
+            Some(fault) => Err(fault),
+            None => self.end(),
+        }
+    }
+}
