@@ -1,8 +1,8 @@
-pub mod FrontLemmas
-pub mod PartLemmas
-pub mod ListLemmas
-pub mod PageLemmas
 pub mod RoleLemmas
 pub mod TreeLemmas
-pub mod NetTextLemmas
+pub mod BareLemmas
+pub mod PageLemmas
+pub mod BreakLemmas
 pub mod AnswerLemmas
+pub mod ReadingLemmas
+pub mod NetTextLemmas

@@ -1,200 +1,180 @@
--- The canonical text of a plain net's tree.
-use Rattle.std.proofs.Common.{◌≡◌, ℕ, ◌^◌, ◌<◌, false, ◌==◌, List, [], ◌∷◌, ◌++◌, map, decimal, codes, Option, Some, None, refl, sym, ap, ◌∙◌, append_assoc, append-nil, arith, inl, inr}
-use Rattle.std.proofs.lemmas.Bool.Decides.{nat_tests}
-use Rattle.std.proofs.lemmas.Grind.{flat_map-append}
-use Rattle.std.proofs.lemmas.List.{map-append}
-use Rattle.std.specs.List.{flat_map, AllByRecursion}
-use Rattle.pn_tree.specs.Canonical.{text_escape, value_escape, escaped_text, escaped_value, attr_text, child_text, content_text as tree_content, element_text, canonical_text, declaration}
+-- The canonical text of a plain net's tree is a document that spells the net.
+use Rattle.std.proofs.Common.{◌≡◌, ℕ, ◌^◌, ◌<◌, zero, suc, Bool, true, false, ◌&&◌, not, List, [], ◌∷◌, ◌++◌, codes, cond, decimal, length, map, Option, Some, None, refl, sym, ap, ◌∙◌, subst, arith}
+use Rattle.std.proofs.lemmas.Fmt.{decimal_nonempty}
+use Rattle.std.specs.List.{filter, list_all, AllByRecursion}
+use Rattle.std.specs.Str.{bytes_eq}
+use Rattle.pn_tree.specs.Canonical.{canonical_text}
+use Rattle.pn_tree.specs.Characters.{is_name, is_text}
+use Rattle.pn_tree.specs.Elements.{IsTree, are_apart, are_attrs, begins_with_text, is_element, is_kid, is_kid_layer, is_kid_text}
+use Rattle.pn_tree.specs.declared.element.Attr.{Attr}
+use Rattle.pn_tree.specs.declared.element.Element.{Element}
 use Rattle.pn_tree.specs.declared.element.Child.{Child}
+use Rattle.pn_tree.specs.declared.element.Child.TheOpen as layer
 use Rattle.pn_tree.specs.declared.element.Child.TheVariants as children
-use Rattle.pn_tree.proofs.ElementLemmas.{element_text_is, child_text-element, child_text-text}
+use Rattle.pn_tree.specs.declared.element.Child.TheVariants.{rolls-Element, rolls-Text}
+use Rattle.pn_tree.specs.declared.element.Child.TheFolds.{fold-roll-Child}
+use Rattle.pn_tree.specs.declared.element.Child.TheViews.{out-Child, roll-Child, roll-out-Child}
+use Rattle.pn_tree.proofs.ElementLemmas.{is_kid-element, is_kid-text, is_text_kid-element, is_text_kid-text}
+use Rattle.pn_tree.proofs.TreeLemmas.{and_both, and_left, and_right, is_element_more, not_element-zero, of_parts, parts_of}
+use Rattle.pn_markup.specs.Offsets.{at_zero, kid_without_offsets, without_offsets}
+use Rattle.pn_markup.proofs.DocumentLemmas.{canonical_spells}
+use Rattle.pn_markup.proofs.OffsetLemmas.{kid_without-element, without_offsets_is}
+use Rattle.pn_markup.proofs.SpellingLemmas.{document_tree}
 use Rattle.pn_command.specs.declared.plain.net.Place.{Place}
 use Rattle.pn_command.specs.declared.plain.net.Arc.{Arc}
 use Rattle.pn_command.specs.Links.{IsPlain, Spells}
-use Rattle.pn_command.specs.NetTree.{attribute, made, number_tree, label_kids, place_tree, transition_tree, arc_tree, place_kid, transition_kid, arc_kid, page_kids, page_tree, net_element, tree_of_net}
-use Rattle.pn_command.specs.Plain.{IsId, IsLabel, label_text, IsPlace, place_text, transition_text, IsArc, arc_text, Page, IsPage, PlainNet, IsWritten, attribute_text, HasNoParts, IsContent, net_lead, page_lead}
-use Rattle.pn_command.proofs.TreeLemmas.{IsPlainByte, AllPlain, id_is_plain, decimal_is_plain}
+use Rattle.pn_command.specs.NetTree.{attribute, arc_tree, made, net_element, page_tree, place_tree, transition_tree, tree_of_net}
+use Rattle.pn_command.specs.Plain.{IsArc, IsId, IsLabel, IsPage, IsPlace, IsWritten, Page, PlainNet}
+use Rattle.pn_command.specs.PlainTree.{bare, is_written, text_tree, written_kids}
+use Rattle.pn_command.proofs.BareLemmas.{bare_is, bare_kid, bare_kid-element, bare_kid-text, bare_kids-text, bare_made, is_written-element, label_elements, label_elements_are, seen_kids}
+use Rattle.pn_command.proofs.PageLemmas.{elements_on, kids_on, net_type, root_space}
+use Rattle.pn_command.proofs.TreeLemmas.{decimal_is_text, id_is_text}
 
-text_byte : (b : ℕ) → IsPlainByte b → text_escape b ≡ b ∷ []
-text_byte b h =
-    let low = h.0 in
-    let one : (b == 38) ≡ false = differs b 38 h.2 in
-    let two : (b == 60) ≡ false = differs b 60 h.3 in
-    let three : (b == 62) ≡ false = differs b 62 h.4 in
-    let four : (b == 13) ≡ false = differs b 13 (λ e. absurd (omega arith)) in
-    rw (one, two, three, four) refl
-  where
-    differs : (b x : ℕ) → (b ≡ x → ⊥) → (b == x) ≡ false
-    differs b x h = grind (arith, nat_tests)
+kid_without-text : (t : List ℕ) → kid_without_offsets (children.Text t) ≡ children.Text t
+kid_without-text t = ap kid_without_offsets (sym (rolls-Text t)) ∙ fold-roll-Child Child Element roll-Child at_zero (layer.Text t) ∙ rolls-Text t
 
-value_byte : (b : ℕ) → IsPlainByte b → value_escape b ≡ b ∷ []
-value_byte b h =
-    let low = h.0 in
-    let one : (b == 34) ≡ false = differs b 34 h.5 in
-    let two : (b == 9) ≡ false = differs b 9 (λ e. absurd (omega arith)) in
-    let three : (b == 10) ≡ false = differs b 10 (λ e. absurd (omega arith)) in
-    rw (one, two, three) (text_byte b h)
-  where
-    differs : (b x : ℕ) → (b ≡ x → ⊥) → (b == x) ≡ false
-    differs b x h = grind (arith, nat_tests)
+-- a kid is what its layer says
+element_kid : (k : Child) (x : Element) → out-Child k ≡ layer.Element x → k ≡ children.Element x
+element_kid k x is = sym (roll-out-Child k) ∙ ap roll-Child is ∙ rolls-Element x
 
--- plain bytes are written as they are
-text_kept : (bs : List ℕ) → AllPlain bs → escaped_text bs ≡ bs
-text_kept [] h = refl
-text_kept (b ∷ bs) h = ap (λ l. l ++ escaped_text bs) (text_byte b h.0) ∙ ap (λ l. b ∷ l) (text_kept bs h.1)
+text_kid : (k : Child) (t : List ℕ) → out-Child k ≡ layer.Text t → k ≡ children.Text t
+text_kid k t is = sym (roll-out-Child k) ∙ ap roll-Child is ∙ rolls-Text t
 
-value_kept : (bs : List ℕ) → AllPlain bs → escaped_value bs ≡ bs
-value_kept [] h = refl
-value_kept (b ∷ bs) h = ap (λ l. l ++ escaped_value bs) (value_byte b h.0) ∙ ap (λ l. b ∷ l) (value_kept bs h.1)
+same_kid : (test : Element → Bool) → ((x : Element) → test x ≡ true → bare (without_offsets x) ≡ bare x) → (k : Child) (l : layer.Child-F Child Element) → out-Child k ≡ l → is_kid_layer test l ≡ true
+    → bare_kid (kid_without_offsets k) ≡ bare_kid k
+same_kid test f k (layer.Element x) is h =
+    let here = element_kid k x is in
+    ap (λ y. bare_kid (kid_without_offsets y)) here ∙ ap bare_kid (kid_without-element x) ∙ bare_kid-element (without_offsets x) ∙ ap children.Element (f x h) ∙ sym (bare_kid-element x) ∙ ap bare_kid (sym here)
+same_kid test f k (layer.Text t) is h =
+    let here = text_kid k t is in
+    ap (λ y. bare_kid (kid_without_offsets y)) here ∙ ap bare_kid (kid_without-text t) ∙ ap bare_kid (sym here)
 
--- an attribute with an id for its value
-id_text : (name id : List ℕ) → IsId id → attr_text (attribute name id) ≡ codes " " ++ (name ++ (codes "=\"" ++ (id ++ codes "\"")))
-id_text name id is = ap (λ v. codes " " ++ (name ++ (codes "=\"" ++ (v ++ codes "\"")))) (value_kept id (id_is_plain id is))
+same_kids : (test : Element → Bool) → ((x : Element) → test x ≡ true → bare (without_offsets x) ≡ bare x) → (ks : List Child) → list_all (is_kid test) ks ≡ true
+    → map bare_kid (map kid_without_offsets ks) ≡ map bare_kid ks
+same_kids test f [] h = refl
+same_kids test f (k ∷ ks) h =
+    ap (λ x. x ∷ map bare_kid (map kid_without_offsets ks)) (same_kid test f k (out-Child k) refl (and_left (is_kid test k) (list_all (is_kid test) ks) h))
+    ∙ ap (λ l. bare_kid k ∷ l) (same_kids test f ks (and_right (is_kid test k) (list_all (is_kid test) ks) h))
 
--- a number in its element `text`
-count_text : (n : ℕ) → n < 2 ^ 64 → element_text (made (codes "text") [] (children.Text (decimal n) ∷ [])) ≡ codes "<text>" ++ (decimal n ++ codes "</text>")
-count_text n fits =
-    element_text_is (made (codes "text") [] (children.Text (decimal n) ∷ []))
-    ∙ ap (λ k. codes "<text>" ++ ((k ++ []) ++ codes "</text>")) (child_text-text (decimal n) ∙ text_kept (decimal n) (decimal_is_plain n fits))
-    ∙ ap (λ k. codes "<text>" ++ (k ++ codes "</text>")) (append-nil (decimal n))
+-- offsets do not matter to an element without white space
+pub bare_anywhere : (m : ℕ) (t : Element) → is_element m t ≡ true → bare (without_offsets t) ≡ bare t
+bare_anywhere zero t h = absurd (not_element-zero t h)
+bare_anywhere (suc m) t h =
+    let parts = parts_of m t h in
+    ap bare (without_offsets_is t) ∙ bare_is (made t.name t.attrs (map kid_without_offsets t.kids))
+    ∙ ap (λ (ks : List Child). made t.name t.attrs (written_kids t.name ks)) (same_kids (is_element m) (λ (x : Element). bare_anywhere m x) t.kids parts.kids) ∙ sym (bare_is t)
 
--- a label round it
-number_text : (name : List ℕ) (n : ℕ) → n < 2 ^ 64
-    → element_text (number_tree name n) ≡ codes "<" ++ (name ++ (codes ">" ++ ((codes "<text>" ++ (decimal n ++ codes "</text>")) ++ (codes "</" ++ (name ++ codes ">")))))
-number_text name n fits =
-    element_text_is (number_tree name n)
-    ∙ ap (λ k. codes "<" ++ (name ++ (codes ">" ++ ((k ++ []) ++ (codes "</" ++ (name ++ codes ">"))))))
-    (child_text-element (made (codes "text") [] (children.Text (decimal n) ∷ [])) ∙ count_text n fits)
-    ∙ ap (λ k. codes "<" ++ (name ++ (codes ">" ++ (k ++ (codes "</" ++ (name ++ codes ">")))))) (append-nil (codes "<text>" ++ (decimal n ++ codes "</text>")))
+-- an element that may stand in a tree, with no white space and no offset in it
+pub record Sound (levels : ℕ) (e : Element) : Type 0 where
+  pub element : is_element levels e ≡ true
+  pub self : bare e ≡ e
 
--- what follows the attributes of an element that may have a label
-label_content : (outer inner : List ℕ) (least : ℕ) (label : Option ℕ) → IsLabel least label
-    → tree_content outer (map child_text (label_kids inner label)) ≡ label_text (codes "><" ++ (inner ++ codes "><text>")) (codes "</text></" ++ (inner ++ (codes "></" ++ (outer ++ codes ">")))) label
-label_content outer inner least None is = refl
-label_content outer inner least (Some n) is =
-    let count = is.1 in
-    ap (λ k. codes ">" ++ ((k ++ []) ++ (codes "</" ++ (outer ++ codes ">")))) (child_text-element (number_tree inner n) ∙ number_text inner n (omega arith))
-    ∙ simp (append-nil, append_assoc)
+elements_apart : (es : List Element) → are_apart (map children.Element es) ≡ true
+elements_apart [] = refl
+elements_apart (e ∷ es) = ap (λ b. not (b && begins_with_text (map children.Element es)) && are_apart (map children.Element es)) (is_text_kid-element e) ∙ elements_apart es
 
-place_is : (p : Place) → IsPlace p → element_text (place_tree p) ≡ place_text p
-place_is p is =
-    element_text_is (place_tree p)
-    ∙ ap (λ a. codes "<place" ++ ((a ++ []) ++ tree_content (codes "place") (map child_text (label_kids (codes "initialMarking") p.marking)))) (id_text (codes "id") p.id is.0)
-    ∙ ap (λ c. codes "<place" ++ (((codes " id=\"" ++ (p.id ++ codes "\"")) ++ []) ++ c)) (label_content (codes "place") (codes "initialMarking") 0 p.marking is.1)
-    ∙ simp (append-nil, append_assoc)
+elements_are_kids : (levels : ℕ) (es : List Element) → AllByRecursion (Sound levels) es → list_all (is_kid (is_element levels)) (map children.Element es) ≡ true
+elements_are_kids levels [] all = refl
+elements_are_kids levels (e ∷ es) all =
+    and_both (is_kid (is_element levels) (children.Element e)) (list_all (is_kid (is_element levels)) (map children.Element es))
+    (is_kid-element (is_element levels) e ∙ all.0.element) (elements_are_kids levels es all.1)
 
-transition_is : (id : List ℕ) → IsId id → element_text (transition_tree id) ≡ transition_text id
-transition_is id is =
-    element_text_is (transition_tree id)
-    ∙ ap (λ a. codes "<transition" ++ ((a ++ []) ++ codes "/>")) (id_text (codes "id") id is)
-    ∙ simp (append-nil, append_assoc)
+elements_stay : (levels : ℕ) (es : List Element) → AllByRecursion (Sound levels) es → filter is_written (map bare_kid (map children.Element es)) ≡ map children.Element es
+elements_stay levels [] all = refl
+elements_stay levels (e ∷ es) all =
+    ap (λ k. filter is_written (k ∷ map bare_kid (map children.Element es))) (bare_kid-element e ∙ ap children.Element all.0.self)
+    ∙ ap (λ b. cond b (children.Element e ∷ filter is_written (map bare_kid (map children.Element es))) (filter is_written (map bare_kid (map children.Element es)))) (is_written-element e)
+    ∙ ap (λ l. children.Element e ∷ l) (elements_stay levels es all.1)
 
-arc_is : (a : Arc) → IsArc a → element_text (arc_tree a) ≡ arc_text a
-arc_is a is =
-    element_text_is (arc_tree a)
-    ∙ ap (λ v. codes "<arc" ++ ((v ++ (attr_text (attribute (codes "source") a.source) ++ (attr_text (attribute (codes "target") a.target) ++ []))) ++ weight)) (id_text (codes "id") a.id is.0)
-    ∙ ap (λ v. codes "<arc" ++ (((codes " id=\"" ++ (a.id ++ codes "\"")) ++ (v ++ (attr_text (attribute (codes "target") a.target) ++ []))) ++ weight)) (id_text (codes "source") a.source is.1.0)
-    ∙ ap (λ v. codes "<arc" ++ (((codes " id=\"" ++ (a.id ++ codes "\"")) ++ ((codes " source=\"" ++ (a.source ++ codes "\"")) ++ (v ++ []))) ++ weight)) (id_text (codes "target") a.target is.1.1.0)
-    ∙ ap (λ c. codes "<arc" ++ (((codes " id=\"" ++ (a.id ++ codes "\"")) ++ ((codes " source=\"" ++ (a.source ++ codes "\"")) ++ ((codes " target=\"" ++ (a.target ++ codes "\"")) ++ []))) ++ c)) (label_content (codes "arc") (codes "inscription") 1 a.weight is.1.1.1)
-    ∙ simp (append-nil, append_assoc)
-  where
-    weight : List ℕ
-    weight = tree_content (codes "arc") (map child_text (label_kids (codes "inscription") a.weight))
+sound_made : (levels : ℕ) (name : List ℕ) (attrs : List Attr) (es : List Element) → bytes_eq name (codes "text") ≡ false → is_name name ≡ true → are_attrs attrs ≡ true → AllByRecursion (Sound levels) es
+    → Sound (suc levels) (made name attrs (map children.Element es))
+sound_made levels name attrs es other named has all =
+    let e = made name attrs (map children.Element es) in
+    record {
+      element = of_parts levels e (record { name = named; attrs = has; apart = elements_apart es; kids = elements_are_kids levels es all });
+      self = bare_made e name attrs (map children.Element es) refl refl (seen_kids e other ∙ elements_stay levels es all);
+    }
 
--- the texts of parts, one after the other
-parts_are : {A : Type 0} (kid : A → Child) (text : A → List ℕ) (Is : A → Type 0) → ((x : A) → Is x → child_text (kid x) ≡ text x) → (xs : List A) → AllByRecursion Is xs
-    → flat_map (λ t. t) (map child_text (map kid xs)) ≡ flat_map text xs
-parts_are kid text Is same [] all = refl
-parts_are kid text Is same (x ∷ xs) all = ap (λ t. t ++ flat_map (λ t. t) (map child_text (map kid xs))) (same x all.0) ∙ ap (λ l. text x ++ l) (parts_are kid text Is same xs all.1)
+kid_text : (t : List ℕ) → 0 < length t → is_text t ≡ true → is_kid_text t ≡ true
+kid_text [] some is = absurd (omega arith)
+kid_text (b ∷ bs) some is = is
 
--- the texts of what stands on a page
-kids_are : (p : Page) → IsPage p → flat_map (λ t. t) (map child_text (page_kids p)) ≡ flat_map place_text p.places ++ (flat_map transition_text p.transitions ++ flat_map arc_text p.arcs)
-kids_are p is =
-    ap (flat_map (λ t. t)) (map-append child_text (map place_kid p.places) (map transition_kid p.transitions ++ map arc_kid p.arcs)
-    ∙ ap (λ l. map child_text (map place_kid p.places) ++ l) (map-append child_text (map transition_kid p.transitions) (map arc_kid p.arcs)))
-    ∙ flat_map-append (λ t. t) (map child_text (map place_kid p.places)) (map child_text (map transition_kid p.transitions) ++ map child_text (map arc_kid p.arcs))
-    ∙ ap (λ l. l ++ flat_map (λ t. t) (map child_text (map transition_kid p.transitions) ++ map child_text (map arc_kid p.arcs)))
-    (parts_are place_kid place_text IsPlace (λ q h. child_text-element (place_tree q) ∙ place_is q h) p.places is.places)
-    ∙ ap (λ l. flat_map place_text p.places ++ l) (flat_map-append (λ t. t) (map child_text (map transition_kid p.transitions)) (map child_text (map arc_kid p.arcs))
-    ∙ ap (λ l. l ++ flat_map (λ t. t) (map child_text (map arc_kid p.arcs))) (parts_are transition_kid transition_text IsId (λ q h. child_text-element (transition_tree q) ∙ transition_is q h) p.transitions is.transitions)
-    ∙ ap (λ l. flat_map transition_text p.transitions ++ l) (parts_are arc_kid arc_text IsArc (λ q h. child_text-element (arc_tree q) ∙ arc_is q h) p.arcs is.arcs))
+sound_text : (n : ℕ) → n < 2 ^ 64 → Sound 1 (text_tree n)
+sound_text n fits =
+    let kid = children.Text (decimal n) in
+    record {
+      element = of_parts 0 (text_tree n) (record {
+        name = refl;
+        attrs = refl;
+        apart = ap (λ b. not (b && false) && true) (is_text_kid-text (decimal n));
+        kids = and_both (is_kid (is_element 0) kid) true (is_kid-text (is_element 0) (decimal n) ∙ kid_text (decimal n) (decimal_nonempty n fits) (decimal_is_text n fits)) refl;
+      });
+      self = bare_made (text_tree n) (codes "text") [] (kid ∷ []) refl refl (bare_kids-text (text_tree n) refl ∙ ap (λ k. k ∷ []) (bare_kid-text (decimal n)));
+    }
 
--- a page without kids has no parts
-nothing_mapped : {A B : Type 0} (f : A → B) (xs : List A) → map f xs ≡ [] → xs ≡ []
-nothing_mapped f [] e = refl
-nothing_mapped f (x ∷ xs) e = cc
+sound_label : (name : List ℕ) (least : ℕ) (label : Option ℕ) → bytes_eq name (codes "text") ≡ false → is_name name ≡ true → IsLabel least label → AllByRecursion (Sound 2) (label_elements name label)
+sound_label name least None other named is = tt
+sound_label name least (Some n) other named is = let small = is.1 in (sound_made 1 name [] (text_tree n ∷ []) other named refl (sound_text n (omega arith), tt), tt)
 
-nothing_joined : {A : Type 0} (xs ys : List A) → xs ++ ys ≡ [] → (xs ≡ []) × (ys ≡ [])
-nothing_joined [] ys e = (refl, e)
-nothing_joined (x ∷ xs) ys e = cc
+id_attr : (id : List ℕ) → IsId id → are_attrs (attribute (codes "id") id ∷ []) ≡ true
+id_attr id is = and_both (is_name (codes "id")) (is_text id && true) refl (and_both (is_text id) true (id_is_text id is) refl)
 
-no_parts : (p : Page) → map child_text (page_kids p) ≡ [] → HasNoParts p
-no_parts p e =
-    let kids = nothing_mapped child_text (page_kids p) e in
-    let first = nothing_joined (map place_kid p.places) (map transition_kid p.transitions ++ map arc_kid p.arcs) kids in
-    let then = nothing_joined (map transition_kid p.transitions) (map arc_kid p.arcs) first.1 in
-    (nothing_mapped place_kid p.places first.0, nothing_mapped transition_kid p.transitions then.0, nothing_mapped arc_kid p.arcs then.1)
+sound_place : (p : Place) → IsPlace p → Sound 3 (place_tree p)
+sound_place p is =
+    let attrs = attribute (codes "id") p.id ∷ [] in
+    subst (λ (ks : List Child). Sound 3 (made (codes "place") attrs ks)) (sym (label_elements_are (codes "initialMarking") p.marking))
+    (sound_made 2 (codes "place") attrs (label_elements (codes "initialMarking") p.marking) refl refl (id_attr p.id is.0) (sound_label (codes "initialMarking") 0 p.marking refl refl is.1))
 
--- what follows the page's id, as a content of the page
-abbrev closing : List ℕ
-closing = codes "</net></pnml>"
+sound_transition : (id : List ℕ) → IsId id → Sound 3 (transition_tree id)
+sound_transition id is = sound_made 2 (codes "transition") (attribute (codes "id") id ∷ []) [] refl refl (id_attr id is) tt
 
-content_is : (p : Page) → IsPage p → IsContent p (tree_content (codes "page") (map child_text (page_kids p)) ++ closing)
-content_is p is = by (map child_text (page_kids p)) refl
-  where
-    by : (ks : List (List ℕ)) → map child_text (page_kids p) ≡ ks → IsContent p (tree_content (codes "page") ks ++ closing)
-    by [] e = inr (no_parts p e, refl)
-    by (k ∷ ks) e = inl (
-        ap (λ l. (codes ">" ++ (l ++ codes "</page>")) ++ closing) (ap (flat_map (λ t. t)) (sym e) ∙ kids_are p is)
-        ∙ simp append_assoc)
+arc_attrs_are : (a : Arc) → IsArc a → are_attrs (attribute (codes "id") a.id ∷ attribute (codes "source") a.source ∷ attribute (codes "target") a.target ∷ []) ≡ true
+arc_attrs_are a is =
+    let target = and_both (is_text a.target) true (id_is_text a.target is.2) refl in
+    let source = and_both (is_text a.source) (is_text a.target && true) (id_is_text a.source is.1) target in
+    and_both (is_text a.id) (is_text a.source && (is_text a.target && true)) (id_is_text a.id is.0) source
 
--- the page's element, from its start tag on
-page_is : (p : Page) → IsPage p → element_text (page_tree p) ≡ codes "<page id=\"" ++ (p.id ++ (codes "\"" ++ tree_content (codes "page") (map child_text (page_kids p))))
-page_is p is =
-    element_text_is (page_tree p)
-    ∙ ap (λ a. codes "<page" ++ ((a ++ []) ++ tree_content (codes "page") (map child_text (page_kids p)))) (id_text (codes "id") p.id is.id)
-    ∙ simp (append-nil, append_assoc)
+sound_arc : (a : Arc) → IsArc a → Sound 3 (arc_tree a)
+sound_arc a is =
+    let attrs = attribute (codes "id") a.id ∷ attribute (codes "source") a.source ∷ attribute (codes "target") a.target ∷ [] in
+    subst (λ (ks : List Child). Sound 3 (made (codes "arc") attrs ks)) (sym (label_elements_are (codes "inscription") a.weight))
+    (sound_made 2 (codes "arc") attrs (label_elements (codes "inscription") a.weight) refl refl (arc_attrs_are a is) (sound_label (codes "inscription") 1 a.weight refl refl is.3))
 
-type_text : attr_text (attribute (codes "type") (codes "http://www.pnml.org/version-2009/grammar/ptnet")) ≡ codes " type=\"http://www.pnml.org/version-2009/grammar/ptnet\""
-type_text = refl
+all_map : {A : Type 0} (Is : A → Type 0) (tree : A → Element) (levels : ℕ) → ((x : A) → Is x → Sound levels (tree x)) → (xs : List A) → AllByRecursion Is xs → AllByRecursion (Sound levels) (map tree xs)
+all_map Is tree levels f [] all = tt
+all_map Is tree levels f (x ∷ xs) all = (f x all.0, all_map Is tree levels f xs all.1)
 
-namespace_text : attr_text (attribute (codes "xmlns") (codes "http://www.pnml.org/version-2009/grammar/pnml")) ≡ codes " xmlns=\"http://www.pnml.org/version-2009/grammar/pnml\""
-namespace_text = refl
+all_both : (levels : ℕ) (xs ys : List Element) → AllByRecursion (Sound levels) xs → AllByRecursion (Sound levels) ys → AllByRecursion (Sound levels) (xs ++ ys)
+all_both levels [] ys p q = q
+all_both levels (x ∷ xs) ys p q = (p.0, all_both levels xs ys p.1 q)
 
-net_is : (n : PlainNet) → IsWritten n → element_text (net_element n) ≡ codes "<net id=\"" ++ (n.id ++ (codes "\"" ++ (codes " type=\"http://www.pnml.org/version-2009/grammar/ptnet\"" ++ (codes ">" ++ (element_text (page_tree n.page) ++ codes "</net>")))))
-net_is n is =
-    element_text_is (net_element n)
-    ∙ ap (λ a. codes "<net" ++ ((a ++ (codes " type=\"http://www.pnml.org/version-2009/grammar/ptnet\"" ++ [])) ++ (codes ">" ++ ((child_text (children.Element (page_tree n.page)) ++ []) ++ codes "</net>")))) (id_text (codes "id") n.id is.0)
-    ∙ ap (λ k. codes "<net" ++ (((codes " id=\"" ++ (n.id ++ codes "\"")) ++ (codes " type=\"http://www.pnml.org/version-2009/grammar/ptnet\"" ++ [])) ++ (codes ">" ++ ((k ++ []) ++ codes "</net>")))) (child_text-element (page_tree n.page))
-    ∙ simp (append-nil, append_assoc)
+sound_elements : (p : Page) → IsPage p → AllByRecursion (Sound 3) (elements_on p)
+sound_elements p is =
+    all_both 3 (map place_tree p.places) (map transition_tree p.transitions ++ map arc_tree p.arcs) (all_map IsPlace place_tree 3 sound_place p.places is.places)
+    (all_both 3 (map transition_tree p.transitions) (map arc_tree p.arcs) (all_map IsId transition_tree 3 sound_transition p.transitions is.transitions) (all_map IsArc arc_tree 3 sound_arc p.arcs is.arcs))
 
-root_is : (n : PlainNet) → element_text (tree_of_net n) ≡ codes "<pnml xmlns=\"http://www.pnml.org/version-2009/grammar/pnml\">" ++ (element_text (net_element n) ++ codes "</pnml>")
-root_is n =
-    element_text_is (tree_of_net n)
-    ∙ ap (λ k. codes "<pnml xmlns=\"http://www.pnml.org/version-2009/grammar/pnml\">" ++ ((k ++ []) ++ codes "</pnml>")) (child_text-element (net_element n))
-    ∙ simp append-nil
+sound_page : (p : Page) → IsPage p → Sound 4 (page_tree p)
+sound_page p is =
+    let attrs = attribute (codes "id") p.id ∷ [] in
+    subst (λ (ks : List Child). Sound 4 (made (codes "page") attrs ks)) (sym (kids_on p)) (sound_made 3 (codes "page") attrs (elements_on p) refl refl (id_attr p.id is.id) (sound_elements p is))
 
--- the whole text, with what stands behind the page's id in one piece
-text_is : (id page : List ℕ) (content : List ℕ)
-    → codes "<pnml xmlns=\"http://www.pnml.org/version-2009/grammar/pnml\">" ++ ((codes "<net id=\"" ++ (id ++ (codes "\"" ++ (codes " type=\"http://www.pnml.org/version-2009/grammar/ptnet\"" ++ (codes ">"
-    ++ ((codes "<page id=\"" ++ (page ++ (codes "\"" ++ content))) ++ codes "</net>")))))) ++ codes "</pnml>") ++ codes "\n"
-    ≡ attribute_text net_lead id ++ (attribute_text page_lead page ++ ((content ++ closing) ++ codes "\n"))
-text_is id page content = simp append_assoc
+sound_net : (n : PlainNet) → IsWritten n → Sound 5 (net_element n)
+sound_net n is =
+    let attrs = attribute (codes "id") n.id ∷ net_type ∷ [] in
+    sound_made 4 (codes "net") attrs (page_tree n.page ∷ []) refl refl (and_both (is_text n.id) true (id_is_text n.id is.0) refl) (sound_page n.page is.1, tt)
 
--- the canonical text of a plain net's tree spells that net
-pub canonical_spells : (n : PlainNet) → IsPlain n → Spells n (canonical_text (tree_of_net n))
-canonical_spells n plain =
-    let content = tree_content (codes "page") (map child_text (page_kids n.page)) in
-    let page = page_is n.page plain.written.1 in
-    let net = net_is n plain.written ∙ ap (λ t. codes "<net id=\"" ++ (n.id ++ (codes "\"" ++ (codes " type=\"http://www.pnml.org/version-2009/grammar/ptnet\"" ++ (codes ">" ++ (t ++ codes "</net>")))))) page in
-    let root = root_is n ∙ ap (λ t. codes "<pnml xmlns=\"http://www.pnml.org/version-2009/grammar/pnml\">" ++ (t ++ codes "</pnml>")) net in
+pub sound_tree : (n : PlainNet) → IsWritten n → Sound 6 (tree_of_net n)
+sound_tree n is = sound_made 5 (codes "pnml") (root_space ∷ []) (net_element n ∷ []) refl refl refl (sound_net n is, tt)
+
+pub text_spells : (n : PlainNet) → IsPlain n → Spells n (canonical_text (tree_of_net n))
+text_spells n plain =
+    let e = tree_of_net n in
+    let sound = sound_tree n plain.written in
+    let is_tree : IsTree e = is_element_more 6 256 e (omega arith) sound.element in
+    let text = canonical_spells e is_tree in
     record {
       plain = plain;
-      text = record {
-        start = declaration;
-        rest = attribute_text page_lead n.page.id ++ ((content ++ closing) ++ codes "\n");
-        starts = inr refl;
-        page = record { content = content ++ closing; finish = codes "\n"; contents = content_is n.page plain.written.1; finishes = inr refl; text = refl };
-        text = ap (λ t. declaration ++ (t ++ codes "\n")) root ∙ ap (λ l. declaration ++ l) (text_is n.id n.page.id content);
-      };
+      tree = text.tree;
+      is_document = text.is_document;
+      is_net = sym (bare_anywhere 256 text.tree (document_tree text.tree (canonical_text e) text.is_document)) ∙ ap bare text.alike ∙ bare_anywhere 256 e is_tree ∙ sound.self;
     }

@@ -17,7 +17,10 @@ use Rattle.pn_tree.proofs.TextLemmas.{is_text-append}
 use Rattle.pn_command.specs.Building.{IsOpen, with_kids}
 use Rattle.pn_command.specs.NetTree.{made, number_tree}
 use Rattle.pn_command.specs.Plain.{is_id_byte, IsId}
-use Rattle.pn_command.proofs.FrontLemmas.{both_true}
+
+both_true : (a b : Bool) → (a && b) ≡ true → (a ≡ true) × (b ≡ true)
+both_true true b h = (refl, h)
+both_true false b h = cc
 
 both_hold : (a b : Bool) → a ≡ true → b ≡ true → (a && b) ≡ true
 both_hold a b p q = cc

@@ -1,9 +1,11 @@
 -- The answer that is due for the words and the bytes of the input.
-use Rattle.std.specs.Prelude.{◌≡◌, ◌<◌, ◌≤◌, ℕ, List, [], length, codes, Option, MatchOption}
+use Rattle.std.specs.Prelude.{◌≡◌, ◌<◌, ◌≤◌, ℕ, List, [], length, take, codes, Option, MatchOption}
 use Rattle.pn_outside.specs.declared.limits.TheConstants.{BYTES}
 use Rattle.pn_outside.specs.Cause.{Rose}
 use Rattle.pn_outside.specs.Taking.{Takes, TakesFront}
 use Rattle.pn_tree.specs.Canonical.{canonical_text}
+use Rattle.pn_tree.specs.declared.element.Element.{Element}
+use Rattle.pn_markup.specs.Document.{IsBreak, IsDocument, IsFront}
 use Rattle.pn_command.specs.declared.words.Asked.{Asked}
 use Rattle.pn_command.specs.declared.words.Asked.TheVariants.{Check, Flatten, Step, Modes, Unfold, Trial}
 use Rattle.pn_command.specs.declared.status.Status.{Status}
@@ -13,7 +15,7 @@ use Rattle.pn_command.specs.declared.due.Due.TheVariants as due
 use Rattle.pn_command.specs.Words.{asked_of}
 use Rattle.pn_command.specs.Plain.{PlainNet}
 use Rattle.pn_command.specs.Links.{Spells}
-use Rattle.pn_command.specs.Lines.{usage_line, not_yet_line, limit_line, summary_of, summary_line}
+use Rattle.pn_command.specs.Lines.{usage_line, broken_line, not_yet_line, limit_line, summary_of, summary_line}
 use Rattle.pn_command.specs.NetTree.{tree_of_net}
 
 -- how a call ends, and what it writes
@@ -33,10 +35,29 @@ line_with s line = record { status = s; out = []; err = line }
 abbrev pub answer_of : Due → Answer
 answer_of due.Misused = line_with status.Usage usage_line
 answer_of due.TooLong = line_with status.Limit (limit_line (codes "input"))
+answer_of (due.Broken k) = line_with status.Refused (broken_line k)
 answer_of due.NotYet = line_with status.Refused not_yet_line
 answer_of due.OutputTooLong = line_with status.Limit (limit_line (codes "output"))
 answer_of (due.Summary s) = done_with (summary_line s)
 answer_of (due.Text t) = done_with (canonical_text t)
+
+-- the input is longer than it may be, and a document may begin with as much of it as may be
+pub record IsTooLong (bytes : List ℕ) : Type 0 where
+  pub longer : BYTES < length bytes
+  pub front : IsFront (take BYTES bytes)
+
+-- the input is no document, and is not refused as too long: this is its break
+pub record IsBroken (bytes : List ℕ) (k : ℕ) : Type 0 where
+  pub breaks : IsBreak bytes k
+  pub no_document : (tree : Element) → IsDocument tree bytes → ⊥
+  pub fits : IsTooLong bytes → ⊥
+
+-- the input is a document within the limit, and spells no plain net
+pub record IsOther (bytes : List ℕ) : Type 0 where
+  pub tree : Element
+  pub is_document : IsDocument tree bytes
+  pub within : length bytes ≤ BYTES
+  pub no_net : (n : PlainNet) → Spells n bytes → ⊥
 
 -- the input is within its limit and spells this net
 pub record IsInput (n : PlainNet) (bytes : List ℕ) : Type 0 where
@@ -47,6 +68,7 @@ pub record IsInput (n : PlainNet) (bytes : List ℕ) : Type 0 where
 abbrev pub AnswersCheck : PlainNet → Due → Type 0
 AnswersCheck n due.Misused = ⊥
 AnswersCheck n due.TooLong = ⊥
+AnswersCheck n (due.Broken k) = ⊥
 AnswersCheck n due.NotYet = ⊥
 AnswersCheck n due.OutputTooLong = ⊥
 AnswersCheck n (due.Summary s) = s ≡ summary_of n
@@ -56,6 +78,7 @@ AnswersCheck n (due.Text t) = ⊥
 abbrev pub AnswersFlatten : PlainNet → Due → Type 0
 AnswersFlatten n due.Misused = ⊥
 AnswersFlatten n due.TooLong = ⊥
+AnswersFlatten n (due.Broken k) = ⊥
 AnswersFlatten n due.NotYet = ⊥
 AnswersFlatten n due.OutputTooLong = BYTES < length (canonical_text (tree_of_net n))
 AnswersFlatten n (due.Summary s) = ⊥
@@ -70,11 +93,12 @@ AnswersNet Modes n d = ⊥
 AnswersNet Unfold n d = ⊥
 AnswersNet (Trial k) n d = ⊥
 
--- what is due for a command: a line where the input is too long or spells no plain net, else its answer for the net
+-- what is due for a command: a line where the input is too long, is no document or spells no plain net, else its answer for the net
 abbrev pub IsDueFor : Asked → List ℕ → Due → Type 0
 IsDueFor asked bytes due.Misused = ⊥
-IsDueFor asked bytes due.TooLong = BYTES < length bytes
-IsDueFor asked bytes due.NotYet = (length bytes ≤ BYTES) × ((n : PlainNet) → Spells n bytes → ⊥)
+IsDueFor asked bytes due.TooLong = IsTooLong bytes
+IsDueFor asked bytes (due.Broken k) = IsBroken bytes k
+IsDueFor asked bytes due.NotYet = IsOther bytes
 IsDueFor asked bytes due.OutputTooLong = (n : PlainNet) × IsInput n bytes × AnswersNet asked n due.OutputTooLong
 IsDueFor asked bytes (due.Summary s) = (n : PlainNet) × IsInput n bytes × AnswersNet asked n (due.Summary s)
 IsDueFor asked bytes (due.Text t) = (n : PlainNet) × IsInput n bytes × AnswersNet asked n (due.Text t)

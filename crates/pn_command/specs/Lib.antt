@@ -1,5 +1,5 @@
-pub mod Front
 pub mod Plain
+pub mod PlainTree
 pub mod Links
 pub mod Index
 pub mod NetTree
@@ -7,3 +7,4 @@ pub mod Building
 pub mod Words
 pub mod Lines
 pub mod Answer
+pub mod Reading

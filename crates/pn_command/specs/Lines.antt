@@ -15,6 +15,10 @@ usage_line = codes "pnml: usage: check, flatten, step MODE (one or more), modes 
 abbrev pub not_yet_line : List ℕ
 not_yet_line = codes "pnml: not yet\n"
 
+-- the line for an input that is no document, with its break
+abbrev pub broken_line : ℕ → List ℕ
+broken_line k = count_text (codes "pnml: byte ") k ++ codes ": broken\n"
+
 -- the line for an input or an output that is longer than it may be
 abbrev pub limit_line : List ℕ → List ℕ
 limit_line what = count_text (codes "pnml: limit: " ++ (what ++ codes " longer than ")) BYTES ++ codes " bytes\n"

@@ -6,7 +6,11 @@ use Rattle.pn_command.specs.declared.plain.net.Role.{Role}
 use Rattle.pn_command.specs.declared.plain.net.Role.TheVariants as role
 use Rattle.pn_command.specs.declared.plain.net.Place.{Place}
 use Rattle.pn_command.specs.declared.plain.net.Arc.{Arc}
-use Rattle.pn_command.specs.Plain.{Page, PlainNet, IsWritten, SpellsNet}
+use Rattle.pn_tree.specs.declared.element.Element.{Element}
+use Rattle.pn_markup.specs.Document.{IsDocument}
+use Rattle.pn_command.specs.Plain.{Page, PlainNet, IsWritten}
+use Rattle.pn_command.specs.PlainTree.{bare}
+use Rattle.pn_command.specs.NetTree.{tree_of_net}
 
 -- what each id names
 abbrev pub place_name : Place → List ℕ × Role
@@ -61,7 +65,9 @@ pub record IsPlain (n : PlainNet) : Type 0 where
   pub written : IsWritten n
   pub linked : IsLinked n
 
--- the bytes spell the plain net
+-- the bytes are a document, whose tree is that of the plain net but for white space between its elements
 pub record Spells (n : PlainNet) (bytes : List ℕ) : Type 0 where
   pub plain : IsPlain n
-  pub text : SpellsNet n bytes
+  pub tree : Element
+  pub is_document : IsDocument tree bytes
+  pub is_net : bare tree ≡ tree_of_net n

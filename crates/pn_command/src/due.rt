@@ -1,16 +1,18 @@
 //! The answer that is due.
 
-ghost use Rattle.std.specs.Prelude.{◌≡◌, ◌≤◌, IfOk, IfSome, Err, Ok, None, map, length, string_bytes, sum_by};
+ghost use Rattle.std.specs.Prelude.{◌≡◌, ◌≢◌, ◌≤◌, ℕ, List, IfOk, IfSome, Err, Ok, None, map, length, string_bytes, sum_by};
 ghost use Rattle.std.specs.Io.KnownBytes.{IsAtEnd};
+ghost use Rattle.pn_markup.specs.Document.{IsDocument};
 ghost use Rattle.pn_outside.specs.Cause.{Rose};
 ghost use Rattle.pn_command.specs.Answer.{AnswersFlatten, AnswersNet, IsDueFor, IsTheDue, answer_of};
 ghost use Rattle.pn_command.specs.Links.{IsPlain};
+ghost use Rattle.pn_command.specs.Reading.{IsScanned, IsWhole, ReadsNoFurther, TakesBegun};
 ghost use Rattle.pn_command.specs.Lines.{summary_of_page, tokens_of};
 ghost use Rattle.pn_command.specs.Words.{asked_of, IsBuilt};
 ghost use Rattle.pn_command.specs.declared.due.Due.{Due};
 
 use crate::Status;
-use crate::input::{Stop, read_all};
+use crate::input::{Scanned, Stop, scan_all};
 use crate::lines::Summary;
 use crate::plain::net::{Place, PlainNet, PlainPage};
 use crate::plain::read::plain_net;
@@ -26,6 +28,7 @@ use std::alloc::{AllocError, Global};
 pub(crate) enum Due {
     Misused,
     TooLong,
+    Broken(u64),
     NotYet,
     OutputTooLong,
     Summary(Summary),
@@ -79,16 +82,29 @@ fn net_due(alloc: Global, asked: Asked, net: &PlainNet) -> Result<Due, AllocErro
     }
 }
 
-/// What is due for a command and an input within the limit.
-fn document_due(alloc: Global, asked: Asked, bytes: &[u8]) -> Result<Due, AllocError>
+/// What is due for a command and a tree.
+fn tree_due(alloc: Global, asked: Asked, tree: &Tree) -> Result<Due, AllocError>
     requires is_built { IsBuilt asked }
-    requires within { length bytes.now ≤ BYTES }
-    ensures due { IfOk result (IsDueFor asked bytes.now) }
-    ensures only { IfOk result (λ d. (other : Due) → IsDueFor asked bytes.now other → other ≡ d) }
+    ensures due { IfOk result (λ d. (bytes : List ℕ) → IsDocument tree.now bytes → length bytes ≤ BYTES → IsDueFor asked bytes d) }
+    ensures asked { IfOk result (λ d. (answer_of d).status ≢ Status.Usage) }
 {
-    match plain_net(alloc, bytes)? {
+    match plain_net(alloc, tree.root())? {
         None => Ok(Due::NotYet),
         Some(net) => net_due(alloc, asked, &net),
+    }
+}
+
+/// What is due for a command and an input that was read.
+fn scanned_due(alloc: Global, asked: Asked, scanned: Scanned) -> Result<Due, AllocError>
+    requires is_built { IsBuilt asked }
+    ensures due { IfOk result (λ d. (bytes : List ℕ) → IsScanned bytes scanned → IsDueFor asked bytes d) }
+    ensures whole { IfOk result (λ d. (answer_of d).status ≡ Status.Done → IsWhole scanned) }
+    ensures asked { IfOk result (λ d. (answer_of d).status ≢ Status.Usage) }
+{
+    match scanned {
+        Scanned::Document(tree) => tree_due(alloc, asked, &tree),
+        Scanned::Broken(at) => Ok(Due::Broken(at)),
+        Scanned::TooLong => Ok(Due::TooLong),
     }
 }
 
@@ -102,17 +118,16 @@ pub(crate) fn decide<S: Source>(
     ensures misused { asked_of (map string_bytes words.now) ≡ None → (result ≡ Ok Due.Misused) × (source.new ≡ source.old) }
     ensures asked { IfOk result (λ d. (answer_of d).status ≡ Status.Usage → asked_of (map string_bytes words.now) ≡ None) }
     ensures ended { IfOk result (λ d. (answer_of d).status ≡ Status.Done → IsAtEnd (S.left source.new)) }
+    ensures no_further { ReadsNoFurther (S.left source.old) (S.left source.new) }
+    ensures at_fault { result ≡ Err Stop.Fault → TakesBegun (S.left source.old) (S.left source.new) }
     ensures later { S.faults source.old ≤ S.faults source.new }
     ensures cause { result ≡ Err Stop.Fault → Rose (S.faults source.old) (S.faults source.new) }
 {
     let Some(asked) = asks(words) else {
         return Ok(Due::Misused);
     };
-    let bytes = read_all(alloc, source)?;
-    if bytes.len() as u64 > BYTES {
-        return Ok(Due::TooLong);
-    }
-    match document_due(alloc, asked, &bytes) {
+    let scanned = scan_all(alloc, source)?;
+    match scanned_due(alloc, asked, scanned) {
         Ok(due) => Ok(due),
         Err(_) => Err(Stop::Memory),
     }

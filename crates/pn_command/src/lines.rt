@@ -3,7 +3,7 @@
 ghost use Rattle.std.specs.Prelude.{◌≡◌, ◌++◌, codes, decimal};
 ghost use Rattle.pn_outside.specs.Cause.{HasCause};
 ghost use Rattle.pn_outside.specs.Taking.{Puts};
-ghost use Rattle.pn_command.specs.Lines.{count_text, summary_line};
+ghost use Rattle.pn_command.specs.Lines.{broken_line, count_text, summary_line};
 
 use itoa::{Buffer, Integer};
 use pn_outside::limits::BYTES;
@@ -44,6 +44,15 @@ pub(crate) fn put_limit<K: Sink>(sink: &mut K, label: &str) -> Result<(), Failed
 {
     put_count(sink, label, BYTES)?;
     put_text(sink, " bytes\n")
+}
+
+/// Puts the line for an input that is no document, with its break.
+pub(crate) fn put_broken<K: Sink>(sink: &mut K, at: u64) -> Result<(), Failed>
+    ensures puts { Puts K.taken K.number result sink.old sink.new (broken_line at) }
+    ensures cause { HasCause (K.faults sink.old) (K.faults sink.new) result }
+{
+    put_count(sink, "pnml: byte ", at)?;
+    put_text(sink, ": broken\n")
 }
 
 /// Puts the line that sums a net up.

@@ -30,7 +30,7 @@ struct Ended {
 fn run_on(
     alloc: Global,
     words: &[&str],
-    document: &str,
+    document: &[u8],
     cut: usize,
     failing: u64,
     room: usize,
@@ -39,7 +39,7 @@ fn run_on(
     for word in words {
         owned.push(String::from_str(alloc, word)?)?;
     }
-    let bytes = Vec::from_slice(alloc, document.as_bytes())?;
+    let bytes = Vec::from_slice(alloc, document)?;
     let cuts = Vec::from_slice(alloc, &[cut])?;
     let mut source = MemorySource::new(bytes, cuts, Vec::from_slice(alloc, &[failing])?);
     let mut side = PlainSource::new(Vec::new(alloc));
@@ -60,10 +60,27 @@ fn expect(
     err: &str,
 ) -> Result<(), AllocError> {
     for cut in [1000000, 1] {
-        let got = run_on(alloc, words, document, cut, 0, 1000)?;
+        let got = run_on(alloc, words, document.as_bytes(), cut, 0, 1000)?;
         assert_eq!(rt; got.status, status, "{document}");
         assert_eq!(rt; got.out.bytes(), out.as_bytes(), "{document}");
         assert_eq!(rt; got.err.bytes(), err.as_bytes(), "{document}");
+    }
+    Ok(())
+}
+
+/// Asserts that a document is refused as broken at this byte, given whole and byte by byte.
+fn expect_broken(
+    rt: &impl Abort,
+    alloc: Global,
+    document: &[u8],
+    at: usize,
+) -> Result<(), AllocError> {
+    let line = format!(in alloc; "pnml: byte {at}: broken\n")?;
+    for cut in [1000000, 1] {
+        let got = run_on(alloc, &["check"], document, cut, 0, 1000)?;
+        assert_eq!(rt; got.status, Status::Refused, "{at}");
+        assert!(rt; got.out.bytes().is_empty(), "{at}");
+        assert_eq!(rt; got.err.bytes(), line.as_str().as_bytes(), "{at}");
     }
     Ok(())
 }
@@ -110,23 +127,26 @@ fn what_is_not_plain_is_not_yet(rt: HostRuntime) -> Result<(), Fail> {
         ("<net id=\"n\"", "<net id=\"\""),
         (">3<", ">03<"),
         (">3<", "><"),
+        (">3<", "> 3<"),
+        (">3<", "> <"),
+        ("<text>3", " 3<text>3"),
+        ("<text>3</text>", "<text>3</text><text>3</text>"),
+        ("<text>3", "<text x=\"y\">3"),
+        ("/><transition", "/>.<transition"),
+        ("<page", "<!-- no text -->text<page"),
+        ("source=\"a\" target=\"t\"", "target=\"t\" source=\"a\""),
+        ("grammar/pnml", "grammar/pnml "),
+        ("<place id=\"b\"/>", "<place id=\"b\"><name/></place>"),
         (">3<", ">9223372036854775808<"),
-        ("/><transition", "/> <transition"),
         (
             "<place id=\"b\"/><transition id=\"t\"/>",
             "<transition id=\"t\"/><place id=\"b\"/>",
         ),
         ("</page>", "</page><page id=\"h\"></page>"),
-        ("</pnml>", "</pnml> "),
-        ("</pnml>", "</pnml></pnml>"),
-        ("</pnml>", "</pnml>\n\n"),
-        ("<pnml ", "\n<pnml "),
-        ("<pnml ", "<?xml version=\"1.0\" encoding=\"UTF-8\"?><pnml "),
         (
             "target=\"t\"/>",
             "target=\"t\"><inscription><text>0</text></inscription></arc>",
         ),
-        ("target=\"t\"/>", "target=\"t\"></arc>"),
     ] {
         let document = with(alloc, part, other)?;
         expect(
@@ -255,38 +275,153 @@ impl Source for Spaces {
 #[test]
 fn a_longer_input_passes_the_limit(rt: HostRuntime) -> Result<(), Fail> {
     let alloc = rt.alloc();
-    for word in ["check", "flatten"] {
-        let mut words = Vec::new(alloc);
-        words.push(String::from_str(alloc, word)?)?;
-        let mut source = Spaces { left: BYTES + 1 };
-        let mut side = PlainSource::new(Vec::new(alloc));
-        let mut out = MemorySink::new(alloc, 0, Vec::new(alloc))?;
-        let mut err = MemorySink::new(alloc, 100, Vec::new(alloc))?;
-        let status = run(alloc, &words, &mut source, &mut side, &mut out, &mut err);
-        assert_eq!(rt; status, Status::Limit);
-        let line = b"pnml: limit: input longer than 67108864 bytes\n".as_slice();
-        assert_eq!(rt; err.bytes(), line);
+    let mut words = Vec::new(alloc);
+    words.push(String::from_str(alloc, "check")?)?;
+    let mut source = Spaces { left: BYTES + 1 };
+    let mut side = PlainSource::new(Vec::new(alloc));
+    let mut out = MemorySink::new(alloc, 0, Vec::new(alloc))?;
+    let mut err = MemorySink::new(alloc, 100, Vec::new(alloc))?;
+    let status = run(alloc, &words, &mut source, &mut side, &mut out, &mut err);
+    assert_eq!(rt; status, Status::Limit);
+    let line = b"pnml: limit: input longer than 67108864 bytes\n".as_slice();
+    assert_eq!(rt; err.bytes(), line);
+    Ok(())
+}
+
+#[test]
+fn a_front_of_a_document_is_broken_at_its_end(rt: HostRuntime) -> Result<(), Fail> {
+    let alloc = rt.alloc();
+    let bytes = TRANSFER.as_bytes();
+    assert_eq!(rt; bytes.len(), 333);
+    for end in 0..bytes.len() {
+        expect_broken(&rt, alloc, &bytes[..end], end)?;
     }
     Ok(())
 }
 
 #[test]
-fn no_proper_front_is_plain(rt: HostRuntime) -> Result<(), Fail> {
+fn what_is_no_document_is_broken_at_its_break(rt: HostRuntime) -> Result<(), Fail> {
     let alloc = rt.alloc();
-    let mut front = String::new(alloc);
-    for letter in TRANSFER.chars() {
+    for (document, at) in [
+        (b"<place id=\"a\" id=\"b\"/>".as_slice(), 16),
+        (b"<a>&#x110000;</a>", 11),
+        (b"<a>&#0;</a>", 6),
+        (b"<a>]]></a>", 5),
+        (b"<!DOCTYPE a><a/>", 2),
+        (b"<a><!-- -- --></a>", 10),
+        (b"<a></b>", 5),
+        (b"<a/><a/>", 5),
+        (b"<a/>x", 4),
+        (b"<a>\xEF\xBF\xBE", 5),
+        (b"<?xml version=\"1.0\" encoding=\"UTF-16\"?><a/>", 34),
+        (b" <?xml version=\"1.0\"?><a/>", 6),
+    ] {
+        expect_broken(&rt, alloc, document, at)?;
+    }
+    let deep = "<a>".repeat(alloc, 257)?;
+    expect_broken(&rt, alloc, deep.as_bytes(), 769)?;
+    Ok(())
+}
+
+#[test]
+fn layout_is_left_out(rt: HostRuntime) -> Result<(), Fail> {
+    let alloc = rt.alloc();
+    let commented = with(
+        alloc,
+        "<place id=\"b\"/>",
+        "<!-- the second --><place id=\"b\"/>",
+    )?;
+    let mut spread = String::from_str(alloc, "\u{FEFF}")?;
+    for letter in commented.chars() {
+        spread.push(letter)?;
+        if letter == '>' && !spread.as_str().ends_with("<text>") {
+            spread.push('\n')?;
+        }
+    }
+    let line = "ptnet places 2 transitions 1 arcs 2 tokens 3\n";
+    expect(
+        &rt,
+        alloc,
+        &["check"],
+        spread.as_str(),
+        Status::Done,
+        line,
+        "",
+    )?;
+    let mut text = String::from_str(alloc, DECLARATION)?;
+    text.push_str(TRANSFER)?;
+    text.push_str("\n")?;
+    expect(
+        &rt,
+        alloc,
+        &["flatten"],
+        spread.as_str(),
+        Status::Done,
+        text.as_str(),
+        "",
+    )?;
+    for (part, other) in [
+        ("<text>3<", "<text>&#51;<"),
+        ("<text>3<", "<text><![CDATA[3]]><"),
+        ("<text>3<", "<text><!-- three -->3<"),
+        ("id=\"b\"/>", "id = 'b' ></place>"),
+        (
+            "<pnml ",
+            "<?xml version='1.1' standalone='yes'?><?a b?>\n<pnml ",
+        ),
+        ("</pnml>", "</pnml>\n<!-- the end -->"),
+    ] {
+        let document = with(alloc, part, other)?;
         expect(
             &rt,
             alloc,
-            &["check"],
-            front.as_str(),
-            Status::Refused,
+            &["flatten"],
+            document.as_str(),
+            Status::Done,
+            text.as_str(),
             "",
-            NOT_YET,
         )?;
-        front.push(letter)?;
     }
-    assert_eq!(rt; front.as_str(), TRANSFER);
+    Ok(())
+}
+
+#[test]
+fn other_documents_are_not_yet(rt: HostRuntime) -> Result<(), Fail> {
+    let alloc = rt.alloc();
+    let (head, _) = TRANSFER.split_once("<place").ok_or("no place")?;
+    let mut named = String::from_str(alloc, head)?;
+    named.push_str(
+        "<place id=\"a\"><name><text>\u{E9}&#x10FFFF;</text></name></place></page></net></pnml>",
+    )?;
+    expect(
+        &rt,
+        alloc,
+        &["check"],
+        named.as_str(),
+        Status::Refused,
+        "",
+        NOT_YET,
+    )?;
+    let mut deep = "<a>".repeat(alloc, 256)?;
+    deep.push_str("</a>".repeat(alloc, 256)?.as_str())?;
+    expect(
+        &rt,
+        alloc,
+        &["check"],
+        deep.as_str(),
+        Status::Refused,
+        "",
+        NOT_YET,
+    )?;
+    Ok(())
+}
+
+#[test]
+fn reading_stops_at_a_break(rt: HostRuntime) -> Result<(), Fail> {
+    let alloc = rt.alloc();
+    let got = run_on(alloc, &["check"], b"<a/>xyz", 1, 6, 100)?;
+    assert_eq!(rt; got.status, Status::Refused);
+    assert_eq!(rt; got.err.bytes(), b"pnml: byte 4: broken\n".as_slice());
     Ok(())
 }
 
@@ -312,12 +447,12 @@ fn other_words_are_misused(rt: HostRuntime) -> Result<(), Fail> {
 fn faults_of_the_streams_are_told(rt: HostRuntime) -> Result<(), Fail> {
     let alloc = rt.alloc();
     for cut in [100, 1] {
-        let got = run_on(alloc, &["check"], TRANSFER, cut, 3, 1000)?;
+        let got = run_on(alloc, &["check"], TRANSFER.as_bytes(), cut, 3, 1000)?;
         assert_eq!(rt; got.status, Status::ReadFault);
         assert!(rt; got.out.bytes().is_empty() && got.err.bytes().is_empty());
     }
     for cut in [1000000, 1] {
-        let got = run_on(alloc, &["check"], TRANSFER, cut, 0, 10)?;
+        let got = run_on(alloc, &["check"], TRANSFER.as_bytes(), cut, 0, 10)?;
         assert_eq!(rt; got.status, Status::WriteFault);
         assert_eq!(rt; got.out.bytes(), b"ptnet plac".as_slice());
         assert!(rt; got.err.bytes().is_empty());

@@ -7,13 +7,16 @@ ghost use Rattle.pn_outside.specs.Taking.{Puts};
 ghost use Rattle.pn_outside.specs.declared.limits.TheConstants.{BYTES};
 ghost use Rattle.pn_tree.specs.Canonical.{canonical_text};
 ghost use Rattle.pn_command.specs.Answer.{Answers, Begins, EachAnswer, ForAnswer, IsAnswer, IsLine, RoseWhereDue, answer_of};
-ghost use Rattle.pn_command.specs.Lines.{count_text, summary_line};
+ghost use Rattle.pn_command.specs.Lines.{broken_line, count_text, summary_line};
+ghost use Rattle.pn_command.specs.Reading.{ReadsNoFurther, TakesBegun};
 ghost use Rattle.pn_command.specs.Words.{asked_of};
 
 use crate::Status;
 use crate::due::{Due, decide};
 use crate::input::Stop;
-use crate::lines::{INPUT_LIMIT, NOT_YET, OUTPUT_LIMIT, Summary, USAGE, put_limit, put_summary};
+use crate::lines::{
+    INPUT_LIMIT, NOT_YET, OUTPUT_LIMIT, Summary, USAGE, put_broken, put_limit, put_summary,
+};
 use pn_outside::{Failed, Sink, Source, put_text};
 use pn_tree::{Tree, put_tree};
 use std::alloc::Global;
@@ -35,6 +38,16 @@ fn write_summary<K: Sink>(sink: &mut K, summary: Summary) -> Result<(), Failed>
     ensures cause { HasCause (K.faults sink.old) (K.faults sink.new) result }
 {
     put_summary(sink, summary)?;
+    sink.done()
+}
+
+/// Writes the line for an input that is no document, with its break, and passes it on.
+fn write_broken<K: Sink>(sink: &mut K, at: u64) -> Result<(), Failed>
+    ensures puts { Puts K.taken K.number result sink.old sink.new (broken_line at) }
+    ensures settled { OnOk result (K.settled sink.new) }
+    ensures cause { HasCause (K.faults sink.old) (K.faults sink.new) result }
+{
+    put_broken(sink, at)?;
     sink.done()
 }
 
@@ -82,6 +95,7 @@ fn deliver<O: Sink, E: Sink>(due: Due, out: &mut O, err: &mut E) -> Status
     match due {
         Due::Misused => ended(write_line(err, USAGE), Status::Usage),
         Due::TooLong => ended(write_limit(err, INPUT_LIMIT), Status::Limit),
+        Due::Broken(at) => ended(write_broken(err, at), Status::Refused),
         Due::NotYet => ended(write_line(err, NOT_YET), Status::Refused),
         Due::OutputTooLong => ended(write_limit(err, OUTPUT_LIMIT), Status::Limit),
         Due::Summary(summary) => ended(write_summary(out, summary), Status::Done),
@@ -91,7 +105,8 @@ fn deliver<O: Sink, E: Sink>(due: Due, out: &mut O, err: &mut E) -> Status
 
 /// Answers what the words ask for. `source` gives the document; `side` is a second input that no
 /// command reads so far. The answer's text goes to `out`, a usage or refusal line to `err`.
-/// Reads the input whole, and at most 4096 bytes more than an input may have.
+/// Reads the input to its end, or to the piece behind which no document goes on or which goes past
+/// the limit.
 pub fn run<S: Source, T: Source, O: Sink, E: Sink>(
     alloc: Global,
     words: &[String],
@@ -114,6 +129,11 @@ pub fn run<S: Source, T: Source, O: Sink, E: Sink>(
     ensures write_fault { result ≡ Status.WriteFault → IfSome (S.left source.old) (λ b. EachAnswer (map string_bytes words.now) b
         (λ a. RoseWhereDue a.status (O.faults out.old) (O.faults out.new) (E.faults err.old) (E.faults err.new))) }
     ensures write_fault_untold { result ≡ Status.WriteFault → Rose (O.faults out.old) (O.faults out.new) ⊎ Rose (E.faults err.old) (E.faults err.new) }
+
+    // What was read before a failed read is a front of a document, within the limit. However the
+    // call ends, at most one piece more than that was read.
+    ensures read_fault_begun { result ≡ Status.ReadFault → TakesBegun (S.left source.old) (S.left source.new) }
+    ensures no_further { ReadsNoFurther (S.left source.old) (S.left source.new) }
 
     // Where nothing failed, the call answers or wants memory.
     ensures complete { ¬ Rose (S.faults source.old) (S.faults source.new) → ¬ Rose (T.faults side.old) (T.faults side.new)

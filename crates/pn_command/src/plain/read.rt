@@ -1,87 +1,54 @@
-//! Readers of whole plain nets.
+//! Readers of whole plain nets, each from an element.
 
-ghost use Rattle.std.specs.Prelude.{◌↔◌, IfOk, IsTrue};
-ghost use Rattle.pn_command.specs.Front.{ReadsAll, ReadsWhole};
-ghost use Rattle.pn_command.specs.Plain.{IsId, IsPlace, IsArc, place_text, transition_text, arc_text, IsPage, SpellsPage, IsWritten, SpellsNet, Closes, ReadsContent, SkipsStart};
+ghost use Rattle.std.specs.Prelude.{◌≡◌, ◌≢◌, ◌∷◌, [], codes, false, map, IfOk, MatchOption};
+ghost use Rattle.std.specs.Str.{bytes_eq};
+ghost use Rattle.pn_tree.specs.Views.{element_of};
+ghost use Rattle.pn_tree.specs.declared.element.Element.{Element};
+ghost use Rattle.pn_tree.specs.declared.element.Child.TheVariants as children;
 ghost use Rattle.pn_command.specs.Links.{IsPlain};
+ghost use Rattle.pn_command.specs.NetTree.{net_element, page_kids, page_tree, tree_of_net};
+ghost use Rattle.pn_command.specs.Plain.{HasContent, IsPage, IsWritten};
+ghost use Rattle.pn_command.specs.PlainTree.{AreLeading, ReadsPart, bare, shown};
 
+use crate::plain::inner::{has_attr, has_name, inner};
+use crate::plain::labels::only;
 use crate::plain::links::is_linked;
-use crate::plain::net::{Arc, Place, PlainNet, PlainPage};
-use crate::plain::parts::{after, arc, attribute, id_text, place, transition};
+use crate::plain::net::{PlainNet, PlainPage};
+use crate::plain::nodes::{arcs, id_at, places, transitions};
 use pn_text::Text;
+use pn_tree::View;
 use std::alloc::{AllocError, Global};
 
-/// The places in front of the input, as many as there are.
-fn places(alloc: Global, input: &[u8]) -> Result<(Vec<Place>, &[u8]), AllocError>
-    ensures { IfOk result (λ r. ReadsAll IsPlace place_text input.now r.0.items r.1.now) }
+/// How many elements at the front have this name.
+fn leading(views: &[View<'_>], name: &str) -> usize
+    ensures { AreLeading name.now views.now result }
 {
-    let mut places = Vec::new(alloc);
-    let mut rest = input;
-    while let Some((next, after)) = place(alloc, rest)? {
-        places.push(next)?;
-        rest = after;
+    let mut count = 0;
+    for view in views {
+        if !has_name(*view, name) {
+            return count;
+        }
+        count += 1;
     }
-    Ok((places, rest))
+    count
 }
 
-/// The transitions in front of the input, as many as there are.
-fn transitions(alloc: Global, input: &[u8]) -> Result<(Vec<Text>, &[u8]), AllocError>
-    ensures { IfOk result (λ r. ReadsAll IsId transition_text input.now r.0.items r.1.now) }
+/// The page with this id on which these elements stand.
+fn content(alloc: Global, id: &str, views: &[View<'_>]) -> Result<Option<PlainPage>, AllocError>
+    ensures { IfOk result (ReadsPart (HasContent id.now) page_kids (map shown views.now)) }
 {
-    let mut transitions = Vec::new(alloc);
-    let mut rest = input;
-    while let Some((next, after)) = transition(alloc, rest)? {
-        transitions.push(next)?;
-        rest = after;
-    }
-    Ok((transitions, rest))
-}
-
-/// The arcs in front of the input, as many as there are.
-fn arcs(alloc: Global, input: &[u8]) -> Result<(Vec<Arc>, &[u8]), AllocError>
-    ensures { IfOk result (λ r. ReadsAll IsArc arc_text input.now r.0.items r.1.now) }
-{
-    let mut arcs = Vec::new(alloc);
-    let mut rest = input;
-    while let Some((next, after)) = arc(alloc, rest)? {
-        arcs.push(next)?;
-        rest = after;
-    }
-    Ok((arcs, rest))
-}
-
-/// Whether `literal` is all that is left, but for a line end.
-fn closes(input: &[u8], literal: &[u8]) -> bool
-    ensures { IsTrue result ↔ Closes literal.now input.now }
-{
-    match after(input, literal) {
-        None => false,
-        Some(rest) => rest.is_empty() || rest == b"\n".as_slice(),
-    }
-}
-
-/// The page with what the input spells behind its id.
-fn content(alloc: Global, id: Text, input: &[u8]) -> Result<Option<PlainPage>, AllocError>
-    requires { IsId id }
-    ensures { IfOk result (ReadsContent id input.now) }
-{
-    if closes(input, b"/></net></pnml>") {
-        return Ok(Some(PlainPage {
-            id,
-            places: Vec::new(alloc),
-            transitions: Vec::new(alloc),
-            arcs: Vec::new(alloc),
-        }));
-    }
-    let Some(rest) = after(input, b">") else {
+    let (first, rest) = views.split_at(leading(views, "place"));
+    let (second, third) = rest.split_at(leading(rest, "transition"));
+    let Some(places) = places(alloc, first)? else {
         return Ok(None);
     };
-    let (places, rest) = places(alloc, rest)?;
-    let (transitions, rest) = transitions(alloc, rest)?;
-    let (arcs, rest) = arcs(alloc, rest)?;
-    if !closes(rest, b"</page></net></pnml>") {
+    let Some(transitions) = transitions(alloc, second)? else {
         return Ok(None);
-    }
+    };
+    let Some(arcs) = arcs(alloc, third)? else {
+        return Ok(None);
+    };
+    let id = Text::from_str(alloc, id)?;
     Ok(Some(PlainPage {
         id,
         places,
@@ -90,48 +57,89 @@ fn content(alloc: Global, id: Text, input: &[u8]) -> Result<Option<PlainPage>, A
     }))
 }
 
-/// The page that all of the input spells, with the end tags behind it.
-fn page(alloc: Global, input: &[u8]) -> Result<Option<PlainPage>, AllocError>
-    ensures { IfOk result (ReadsWhole IsPage SpellsPage input.now) }
+/// The page that an element is.
+fn page(alloc: Global, view: View<'_>) -> Result<Option<PlainPage>, AllocError>
+    ensures { IfOk result (ReadsPart IsPage page_tree (bare (element_of view.entry))) }
 {
-    let lead = b" type=\"http://www.pnml.org/version-2009/grammar/ptnet\"><page id=\"";
-    let Some((id, rest)) = attribute(input, lead) else {
+    if !has_name(view, "page") || view.attr_count() != 1 {
+        return Ok(None);
+    }
+    let Some(id) = id_at(view, 0, "id") else {
         return Ok(None);
     };
-    let id = id_text(alloc, id)?;
-    content(alloc, id, rest)
+    let Some(inside) = inner(alloc, view)? else {
+        return Ok(None);
+    };
+    content(alloc, id, &inside)
 }
 
-/// What follows the XML declaration, or all of the input where there is none.
-fn after_start(input: &[u8]) -> &[u8]
-    ensures { SkipsStart input.now result.now }
+/// The one element inside an element.
+fn only_inside<'a>(alloc: Global, view: View<'a>) -> Result<Option<View<'a>>, AllocError>
+    requires { bytes_eq (element_of view).name (codes "text") ≡ false }
+    ensures { IfOk result (λ r. MatchOption r
+        ((e : Element) → (bare (element_of view.entry)).kids ≢ children.Element e ∷ [])
+        (λ v. (bare (element_of view.entry)).kids ≡ shown v ∷ [])) }
 {
-    match after(input, b"<?xml version=\"1.0\" encoding=\"UTF-8\"?>\n") {
-        None => input,
-        Some(rest) => rest,
+    match inner(alloc, view)? {
+        None => Ok(None),
+        Some(inside) => Ok(only(&inside)),
     }
 }
 
-/// The net that all of the input spells, whatever its ids name.
-fn written_net(alloc: Global, input: &[u8]) -> Result<Option<PlainNet>, AllocError>
-    ensures { IfOk result (ReadsWhole IsWritten SpellsNet input.now) }
+/// The net that a `net` element is.
+fn net(alloc: Global, view: View<'_>) -> Result<Option<PlainNet>, AllocError>
+    ensures { IfOk result (ReadsPart IsWritten net_element (bare (element_of view.entry))) }
 {
-    let lead = b"<pnml xmlns=\"http://www.pnml.org/version-2009/grammar/pnml\"><net id=\"";
-    let Some((id, rest)) = attribute(after_start(input), lead) else {
+    if !has_name(view, "net") || view.attr_count() != 2 {
+        return Ok(None);
+    }
+    let Some(id) = id_at(view, 0, "id") else {
         return Ok(None);
     };
-    let Some(page) = page(alloc, rest)? else {
+    if !has_attr(
+        view,
+        1,
+        "type",
+        "http://www.pnml.org/version-2009/grammar/ptnet",
+    ) {
+        return Ok(None);
+    }
+    let Some(inside) = only_inside(alloc, view)? else {
         return Ok(None);
     };
-    let id = id_text(alloc, id)?;
+    let Some(page) = page(alloc, inside)? else {
+        return Ok(None);
+    };
+    let id = Text::from_str(alloc, id)?;
     Ok(Some(PlainNet { id, page }))
 }
 
-/// The plain net that the input spells, where it spells one.
-pub(crate) fn plain_net(alloc: Global, input: &[u8]) -> Result<Option<PlainNet>, AllocError>
-    ensures { IfOk result (ReadsWhole IsPlain SpellsNet input.now) }
+/// The net that the root of a tree is, whatever its ids name.
+fn written_net(alloc: Global, root: View<'_>) -> Result<Option<PlainNet>, AllocError>
+    ensures { IfOk result (ReadsPart IsWritten tree_of_net (bare (element_of root.entry))) }
 {
-    let Some(net) = written_net(alloc, input)? else {
+    if !has_name(root, "pnml") || root.attr_count() != 1 {
+        return Ok(None);
+    }
+    if !has_attr(
+        root,
+        0,
+        "xmlns",
+        "http://www.pnml.org/version-2009/grammar/pnml",
+    ) {
+        return Ok(None);
+    }
+    match only_inside(alloc, root)? {
+        None => Ok(None),
+        Some(inside) => net(alloc, inside),
+    }
+}
+
+/// The plain net that the root of a tree is, where it is one.
+pub(crate) fn plain_net(alloc: Global, root: View<'_>) -> Result<Option<PlainNet>, AllocError>
+    ensures { IfOk result (ReadsPart IsPlain tree_of_net (bare (element_of root.entry))) }
+{
+    let Some(net) = written_net(alloc, root)? else {
         return Ok(None);
     };
     if !is_linked(alloc, &net)? {

@@ -1,6 +1,6 @@
 use Rattle.std.proofs.Common.{codes, []}
 use Rattle.pn_outside.proofs.TakingLemmas.{took_nothing, front_nothing, puts_front}
-use Rattle.pn_command.specs.Lines.{usage_line, not_yet_line, limit_line, summary_line}
+use Rattle.pn_command.specs.Lines.{usage_line, broken_line, not_yet_line, limit_line, summary_line}
 use Rattle.pn_tree.specs.Canonical.{canonical_text}
 use Rattle.pn_command.proofs.top.deliver.Goals as goal
 
@@ -38,4 +38,10 @@ pub returns-in-Text-clause-begun : goal.returns-in-Text-clause-begun
 returns-in-Text-clause-begun g c = rw c.in-Text.is record {
   out = puts_front c.args.out.now c.write_tree.new.sink (canonical_text c.in-Text.tree) c.write_tree.result c.write_tree.ensures.puts;
   err = front_nothing c.args.err.now c.args.err.now [] (took_nothing c.args.err.now);
+}
+
+pub returns-in-Broken-clause-begun : goal.returns-in-Broken-clause-begun
+returns-in-Broken-clause-begun g c = rw c.in-Broken.is record {
+  out = front_nothing c.args.out.now c.args.out.now [] (took_nothing c.args.out.now);
+  err = puts_front c.args.err.now c.write_broken.new.sink (broken_line c.in-Broken.at) c.write_broken.result c.write_broken.ensures.puts;
 }

@@ -1,24 +1,21 @@
-use Rattle.std.proofs.Common.{Some, refl, sym, subst}
-use Rattle.pn_command.specs.Plain.{Page, ReadsContent}
-use Rattle.pn_command.proofs.FrontLemmas.{fails_if}
-use Rattle.pn_command.proofs.PageLemmas.{page_by, empty_page, content_short, content_no_end, content_found}
+use Rattle.pn_command.proofs.BareLemmas.{match_none}
+use Rattle.pn_command.proofs.PageLemmas.{fall_into}
 use Rattle.pn_command.proofs.plain.read.content.Goals as goal
 
-pub returns-then-closes : goal.returns-then-closes
-returns-then-closes c =
-    subst (λ (p : Page). ReadsContent c.args.id c.args.input.now (Some p))
-    (sym (page_by (record { id = c.args.id; places = c.new.result.items; transitions = c.new-then-closes.result.items; arcs = c.new-then-closes-2.result.items }) (empty_page c.args.id)
-    refl c.new.ensures.items c.new-then-closes.ensures.items c.new-then-closes-2.ensures.items))
-    (content_short c.args.id c.args.input.now c.requires (c.closes.ensures.0 c.if-closes.true))
+pub returns-in_default : goal.returns-in_default
+returns-in_default c other is same =
+    let fall = fall_into c.args.views.now c.split_at.result.0.now c.split_at.result.1.now c.split_at-2.result.0.now c.split_at-2.result.1.now c.leading.result c.leading-2.result other
+    c.leading.ensures c.split_at.ensures.front c.split_at.ensures.back c.leading-2.ensures c.split_at-2.ensures.front c.split_at-2.ensures.back same in
+    match_none _ _ c.in_ok-places.field-0 c.in_default.is c.in_ok-places.ensures other.places is.1 fall.places
 
-pub returns-then-not-closes : goal.returns-then-not-closes
-returns-then-not-closes c =
-    content_no_end c.args.id c.args.input.now (fails_if c.closes.result c.closes.ensures.1 c.if-closes.false) c.in-Some.rest.now c.in_ok-places.rest.now c.in_ok-transitions.rest.now c.in_ok-arcs.rest.now
-    c.in_ok-places.places.items c.in_ok-transitions.transitions.items c.in_ok-arcs.arcs.items c.in-Some.ensures c.in_ok-places.ensures c.in_ok-transitions.ensures c.in_ok-arcs.ensures
-    (fails_if c.closes-2.result c.closes-2.ensures.1 c.if-not-closes.true)
+pub returns-in_default-2 : goal.returns-in_default-2
+returns-in_default-2 c other is same =
+    let fall = fall_into c.args.views.now c.split_at.result.0.now c.split_at.result.1.now c.split_at-2.result.0.now c.split_at-2.result.1.now c.leading.result c.leading-2.result other
+    c.leading.ensures c.split_at.ensures.front c.split_at.ensures.back c.leading-2.ensures c.split_at-2.ensures.front c.split_at-2.ensures.back same in
+    match_none _ _ c.in_ok-transitions.field-0 c.in_default-2.is c.in_ok-transitions.ensures other.transitions is.2 fall.transitions
 
-pub returns : goal.returns
-returns c =
-    content_found c.args.id c.args.input.now (fails_if c.closes.result c.closes.ensures.1 c.if-closes.false) c.in-Some.rest.now c.in_ok-places.rest.now c.in_ok-transitions.rest.now c.in_ok-arcs.rest.now
-    c.in_ok-places.places.items c.in_ok-transitions.transitions.items c.in_ok-arcs.arcs.items c.in-Some.ensures c.in_ok-places.ensures c.in_ok-transitions.ensures c.in_ok-arcs.ensures
-    c.requires (c.closes-2.ensures.0 c.if-not-closes.false)
+pub returns-in_default-3 : goal.returns-in_default-3
+returns-in_default-3 c other is same =
+    let fall = fall_into c.args.views.now c.split_at.result.0.now c.split_at.result.1.now c.split_at-2.result.0.now c.split_at-2.result.1.now c.leading.result c.leading-2.result other
+    c.leading.ensures c.split_at.ensures.front c.split_at.ensures.back c.leading-2.ensures c.split_at-2.ensures.front c.split_at-2.ensures.back same in
+    match_none _ _ c.in_ok-arcs.field-0 c.in_default-3.is c.in_ok-arcs.ensures other.arcs is.3 fall.arcs

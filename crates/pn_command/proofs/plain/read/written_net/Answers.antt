@@ -1,18 +1,13 @@
-use Rattle.std.proofs.Common.{subst}
-use Rattle.pn_command.specs.Front.{ReadsWhole}
-use Rattle.pn_command.specs.Plain.{IsPage, SpellsPage}
-use Rattle.pn_command.proofs.PageLemmas.{net_no_id, net_no_page, net_found}
+use Rattle.std.proofs.Common.{sym, ◌∙◌}
+use Rattle.pn_tree.specs.Views.{element_of}
+use Rattle.pn_command.proofs.BareLemmas.{match_none, match_some}
+use Rattle.pn_command.proofs.PageLemmas.{root_many, root_read}
 use Rattle.pn_command.proofs.plain.read.written_net.Goals as goal
 
-pub returns-in_default : goal.returns-in_default
-returns-in_default c = net_no_id c.args.input.now c.after_start.result.now c.after_start.ensures c.in_default.ensures
+pub returns-in-None : goal.returns-in-None
+returns-in-None c other is same = root_many (element_of c.args.root) (match_none _ _ c.in_ok-only_inside.field-0 c.in-None.is c.in_ok-only_inside.ensures) other same
 
-pub returns-in_default-2 : goal.returns-in_default-2
-returns-in_default-2 c =
-    net_no_page c.args.input.now c.after_start.result.now c.after_start.ensures c.in-Some.rest.now c.in-Some.id.now c.in-Some.ensures
-    (subst (ReadsWhole IsPage SpellsPage c.in-Some.rest.now) c.in_default-2.is c.in_ok-page.ensures)
-
-pub returns : goal.returns
-returns c =
-    net_found c.args.input.now c.after_start.result.now c.after_start.ensures c.in-Some.rest.now c.in-Some.id.now c.in-Some.ensures c.in_ok-id.id c.in-Some-2.page c.in_ok-id.ensures
-    (subst (ReadsWhole IsPage SpellsPage c.in-Some.rest.now) c.in-Some-2.is c.in_ok-page.ensures)
+pub returns-in-Some : goal.returns-in-Some
+returns-in-Some c =
+    root_read (element_of c.args.root) c.in-Some.inside c.net.result (sym c.has_name.ensures ∙ c.if-not-has_name.false) (sym c.attr_count.ensures ∙ c.if-attr_count-ne1.false)
+    (c.has_attr.ensures.0 c.if-not-has_attr.false) (match_some _ _ c.in_ok-only_inside.field-0 c.in-Some.inside c.in-Some.is c.in_ok-only_inside.ensures) c.net.ensures

@@ -1,0 +1,197 @@
+-- What was read of an input so far, and what it comes to.
+use Rattle.std.proofs.Common.{◌≡◌, ◌<◌, ◌≤◌, ◌+◌, ℕ, zero, suc, List, [], ◌∷◌, ◌++◌, length, take, drop, Option, None, Some, IfSome, Result, Ok, Err, IfOk, refl, sym, ap, ◌∙◌, subst, append-nil, take-append-drop, length-append, arith}
+use Rattle.std.specs.Io.KnownBytes.{Consumes, IsAtEnd, Keeps}
+use Rattle.std.proofs.KnownBytes.{Consumes-nil, Consumes-trans, Consumes-kept}
+use Rattle.pn_outside.specs.Cause.{Rose}
+use Rattle.pn_outside.specs.declared.limits.TheConstants.{BYTES}
+use Rattle.pn_tree.specs.declared.element.Element.{Element}
+use Rattle.pn_markup.specs.Document.{IsDocument, IsFront, IsBreak}
+use Rattle.pn_scan.specs.declared.scanner.Scanner.{Scanner}
+use Rattle.pn_scan.specs.declared.scanner.ScanFault.{ScanFault}
+use Rattle.pn_scan.specs.declared.scanner.ScanFault.TheVariants as fault
+use Rattle.pn_scan.specs.Reading.{HasRead, IsOnlyFront, answer_of, fault_of}
+use Rattle.pn_scan.specs.Reading as scan
+use Rattle.pn_command.specs.declared.input.Stop.{Stop}
+use Rattle.pn_command.specs.declared.input.Scanned.{Scanned}
+use Rattle.pn_command.specs.declared.input.Scanned.TheVariants as scanned
+use Rattle.pn_command.specs.Answer.{IsTooLong, IsBroken}
+use Rattle.pn_command.specs.Reading.{IsBegun, IsScanned, ReadsNoFurther, Stopped, TakesBegun}
+use Rattle.pn_command.proofs.AnswerLemmas.{all_given}
+use Rattle.pn_command.proofs.BreakLemmas.{front_of_document, nothing_begins, shorter_front, take_front}
+
+-- the scanner was fed what was taken of the source so far, and a document may begin so
+pub record ReadSoFar (s : Scanner) (old now : Option (List ℕ)) (count : ℕ) : Type 0 where
+  pub bytes : List ℕ
+  pub fed : HasRead s bytes
+  pub no_fault : fault_of s ≡ None
+  pub taken : Consumes old now bytes
+  pub begun : IsBegun bytes
+  pub size : count ≡ length bytes
+
+pub nothing_is_begun : IsBegun []
+nothing_is_begun = record { within = omega arith; front = nothing_begins }
+
+pub at_first : (s : Scanner) (a : Option (List ℕ)) → HasRead s [] → fault_of s ≡ None → ReadSoFar s a a 0
+at_first s a fed no_fault = record { bytes = []; fed = fed; no_fault = no_fault; taken = Consumes-nil a; begun = nothing_is_begun; size = refl }
+
+-- nothing was read
+pub unread : (a : Option (List ℕ)) → ReadsNoFurther a a
+unread a = record { bytes = []; piece = []; taken = Consumes-nil a; begun = nothing_is_begun; size = omega arith }
+
+answered_ok : (o : Option ScanFault) → Ok tt ≡ answer_of o → o ≡ None
+answered_ok None e = refl
+answered_ok (Some f) e = cc
+
+module _ (s : Scanner) (a b : Option (List ℕ)) (n : ℕ) (so_far : ReadSoFar s a b n) where
+  pub takes_begun : TakesBegun a b
+  takes_begun = record { bytes = so_far.bytes; taken = so_far.taken; begun = so_far.begun }
+
+  pub within_limit : n ≤ BYTES
+  within_limit = let size = so_far.size in let within = so_far.begun.within in omega arith
+
+  -- the source kept what it had, or gave nothing
+  pub kept : (c : Option (List ℕ)) → Keeps b c → ReadSoFar s a c n
+  kept c keeps = record { bytes = so_far.bytes; fed = so_far.fed; no_fault = so_far.no_fault; taken = Consumes-kept a b c so_far.bytes so_far.taken keeps; begun = so_far.begun; size = so_far.size }
+
+  pub gave_nothing : (c : Option (List ℕ)) → Consumes b c [] → ReadSoFar s a c n
+  gave_nothing c none = record {
+    bytes = so_far.bytes;
+    fed = so_far.fed;
+    no_fault = so_far.no_fault;
+    taken = subst (Consumes a c) (append-nil so_far.bytes) (Consumes-trans a b c so_far.bytes [] so_far.taken none);
+    begun = so_far.begun;
+    size = so_far.size;
+  }
+
+  -- at most one piece more was read
+  pub no_further : (c : Option (List ℕ)) (piece : List ℕ) → Consumes b c piece → length piece ≤ 4096 → ReadsNoFurther a c
+  no_further c piece next small = record { bytes = so_far.bytes; piece = piece; taken = Consumes-trans a b c so_far.bytes piece so_far.taken next; begun = so_far.begun; size = small }
+
+  -- what was fed, for the scanner's next call
+  pub was_fed : (bytes : List ℕ) × HasRead s bytes
+  was_fed = (so_far.bytes, so_far.fed)
+
+  -- a piece more was read, and the scanner went on
+  pub one_piece : (c : Option (List ℕ)) (next : Scanner) (piece : List ℕ) → Consumes b c piece → ((x : List ℕ) → HasRead s x → HasRead next (x ++ piece)) → Ok tt ≡ answer_of (fault_of next)
+      → ((x : List ℕ) → HasRead next x → fault_of next ≡ None → (length x ≤ BYTES) × IsFront x) → ReadSoFar next a c (n + length piece)
+  one_piece c next piece took fed answer goes =
+      let no_fault = answered_ok (fault_of next) answer in
+      let now = fed so_far.bytes so_far.fed in
+      record {
+        bytes = so_far.bytes ++ piece;
+        fed = now;
+        no_fault = no_fault;
+        taken = Consumes-trans a b c so_far.bytes piece so_far.taken took;
+        begun = record { within = (goes (so_far.bytes ++ piece) now no_fault).0; front = (goes (so_far.bytes ++ piece) now no_fault).1 };
+        size = ap (λ m. m + length piece) so_far.size ∙ sym (length-append so_far.bytes piece);
+      }
+
+-- no more is read at the end
+pub nothing_more : (s : Scanner) (a b : Option (List ℕ)) (n : ℕ) → ReadSoFar s a b n → ReadsNoFurther a b
+nothing_more s a b n so_far = no_further s a b n so_far b [] (Consumes-nil b) (omega arith)
+
+take_within : (k : ℕ) (b rest : List ℕ) → k ≤ length b → take k (b ++ rest) ≡ take k b
+take_within zero b rest h = refl
+take_within (suc k) [] rest h = absurd (omega arith)
+take_within (suc k) (x ∷ b) rest h = ap (λ l. x ∷ l) (take_within k b rest (omega arith))
+
+front_take : (m : ℕ) (b : List ℕ) → IsFront b → IsFront (take m b)
+front_take m b f = shorter_front (take m b) (drop m b) (subst IsFront (sym (take-append-drop m b)) f)
+
+longer : (b rest : List ℕ) → length b ≤ length (b ++ rest)
+longer b rest = let size = length-append b rest in omega arith
+
+-- a break before the end stays the break, whatever follows
+broken_stays : (b rest : List ℕ) (k : ℕ) → IsBreak b k → k < length b → k < BYTES → IsBroken (b ++ rest) k
+broken_stays b rest k p inside small =
+    let more = longer b rest in
+    let no = λ (f : IsFront (take (suc k) (b ++ rest))). p.no_more inside (subst IsFront (take_within (suc k) b rest (omega arith)) f) in
+    record {
+      breaks = record { within = omega arith; front = subst IsFront (sym (take_within k b rest (omega arith))) p.front; no_more = λ less f. no f };
+      no_document = λ t d. no (front_take (suc k) (b ++ rest) (front_of_document t (b ++ rest) d));
+      fits = λ long. no (take_front (suc k) BYTES (b ++ rest) (omega arith) long.front);
+    }
+
+long_stays : (b rest : List ℕ) → BYTES < length b → IsFront (take BYTES b) → IsTooLong (b ++ rest)
+long_stays b rest size f =
+    let more = longer b rest in
+    record { longer = omega arith; front = subst IsFront (sym (take_within BYTES b rest (omega arith))) f }
+
+-- what holds of the bytes taken and any bytes behind them holds of all that was there
+part_given : (old new : Option (List ℕ)) (bytes : List ℕ) (P : List ℕ → Type 0) → Consumes old new bytes → ((rest : List ℕ) → P (bytes ++ rest)) → IfSome old P
+part_given None new bytes P taken h = tt
+part_given (Some xs) None bytes P taken h = absurd taken
+part_given (Some xs) (Some ys) bytes P taken h = subst P (sym taken) (h ys)
+
+abbrev failed : ScanFault → Result (Unit {0}) ScanFault
+failed f = Err f
+
+broken_at : (j k : ℕ) → fault.Broken j ≡ fault.Broken k → j ≡ k
+broken_at j k e = cc
+
+not_long : (k : ℕ) → fault.TooLong ≡ fault.Broken k → ⊥
+not_long k e = cc
+
+-- bytes within the limit that begin a document and are none end at their break
+ended_at : (b : List ℕ) (k : ℕ) → length b ≤ BYTES → k ≡ length b → IsOnlyFront b → IsBroken b k
+ended_at b k within is only = record {
+  breaks = record { within = omega (arith, is); front = subst IsFront (sym (take_all k b (omega (arith, is)))) only.front; no_more = λ less f. absurd (omega (arith, is, less)) };
+  no_document = only.none;
+  fits = λ long. let large = long.longer in absurd (omega arith);
+}
+  where
+    take_all : (m : ℕ) (b : List ℕ) → length b ≤ m → take m b ≡ b
+    take_all zero [] h = refl
+    take_all zero (x ∷ b) h = absurd (omega arith)
+    take_all (suc m) [] h = refl
+    take_all (suc m) (x ∷ b) h = ap (λ l. x ∷ l) (take_all m b (omega arith))
+
+stopped_so : (bytes : List ℕ) (f : ScanFault) (r : Result Scanned Stop) (old : Option (List ℕ)) → Stopped f r
+    → ((k : ℕ) → f ≡ fault.Broken k → IfSome old (λ x. IsBroken x k)) → (f ≡ fault.TooLong → IfSome old (λ x. IsTooLong x)) → IfOk r (λ sc. IfSome old (λ x. IsScanned x sc))
+stopped_so bytes (fault.Memory e) r old is broken long = subst (λ (v : Result Scanned Stop). IfOk v (λ sc. IfSome old (λ x. IsScanned x sc))) (sym is) tt
+stopped_so bytes (fault.Broken k) r old is broken long = subst (λ (v : Result Scanned Stop). IfOk v (λ sc. IfSome old (λ x. IsScanned x sc))) (sym is) (broken k refl)
+stopped_so bytes fault.TooLong r old is broken long = subst (λ (v : Result Scanned Stop). IfOk v (λ sc. IfSome old (λ x. IsScanned x sc))) (sym is) (long refl)
+
+module _ (s : Scanner) (a b : Option (List ℕ)) (n : ℕ) (so_far : ReadSoFar s a b n) where
+  -- the scanner refused a piece
+  pub refused : (c : Option (List ℕ)) (next : Scanner) (piece : List ℕ) (f : ScanFault) (r : Result Scanned Stop) → Consumes b c piece → ((x : List ℕ) → HasRead s x → HasRead next (x ++ piece))
+      → ((x : List ℕ) (k : ℕ) → HasRead next x → failed f ≡ failed (fault.Broken k) → scan.IsBroken x k) → ((x : List ℕ) → HasRead next x → failed f ≡ failed fault.TooLong → scan.IsTooLong x)
+      → Stopped f r → IfOk r (λ sc. IfSome a (λ x. IsScanned x sc))
+  refused c next piece f r took fed broken long is =
+      let whole = so_far.bytes ++ piece in
+      let all = Consumes-trans a b c so_far.bytes piece so_far.taken took in
+      let now = fed so_far.bytes so_far.fed in
+      stopped_so whole f r a is
+      (λ k same. let at = broken whole k now (ap failed same) in part_given a c whole (λ x. IsBroken x k) all (λ rest. broken_stays whole rest k at.is_break at.before_end at.before_limit))
+      (λ same. let at = long whole now (ap failed same) in part_given a c whole (λ x. IsTooLong x) all (λ rest. long_stays whole rest at.longer at.front))
+
+  -- the input is a document
+  pub found_tree : (tree : Element) → IsAtEnd b → ((x : List ℕ) → fault_of s ≡ None → HasRead s x → IsDocument tree x) → IfSome a (λ x. IsScanned x (scanned.Document tree))
+  found_tree tree end answers =
+      all_given a b so_far.bytes (λ x. IsScanned x (scanned.Document tree)) so_far.taken end (answers so_far.bytes so_far.no_fault so_far.fed, so_far.begun.within)
+
+  -- the input ends too early
+  pub cut_off : (f : ScanFault) (r : Result Scanned Stop) → IsAtEnd b → ((x : List ℕ) → fault_of s ≡ None → HasRead s x → (f ≡ fault.Broken (length x)) × IsOnlyFront x) → Stopped f r
+      → IfOk r (λ sc. IfSome a (λ x. IsScanned x sc))
+  cut_off f r end answers is =
+      let said = answers so_far.bytes so_far.no_fault so_far.fed in
+      let within = so_far.begun.within in
+      stopped_so so_far.bytes f r a is
+      (λ k same. all_given a b so_far.bytes (λ x. IsBroken x k) so_far.taken end (ended_at so_far.bytes k within (broken_at k (length so_far.bytes) (sym same ∙ said.0)) said.1))
+      (λ same. absurd (not_long (length so_far.bytes) (sym same ∙ said.0)))
+
+pub if_some : {A : Type 0} (o : Option A) (P Q : A → Type 0) → ((x : A) → P x → Q x) → IfSome o P → IfSome o Q
+if_some None P Q f h = tt
+if_some (Some x) P Q f h = f x h
+
+pub take_size : (n : ℕ) (xs : List ℕ) → n ≤ length xs → length (take n xs) ≡ n
+take_size zero xs h = refl
+take_size (suc n) [] h = absurd (omega arith)
+take_size (suc n) (x ∷ xs) h = ap suc (take_size n xs (omega arith))
+
+pub take_small : (n : ℕ) (xs : List ℕ) → n ≤ length xs → length xs ≡ 4096 → length (take n xs) ≤ 4096
+take_small n xs h size = let same = take_size n xs h in omega arith
+
+-- a count that rose since later rose since before
+pub rose_before : (a b c : ℕ) → a ≤ b → Rose b c → Rose a c
+rose_before a b c h rose = omega (arith, rose)
