@@ -31,3 +31,4 @@ pub mod FedLemmas
 pub mod ReachLemmas
 pub mod ModeLemmas
 pub mod ReadingLemmas
+pub mod PlainLemmas

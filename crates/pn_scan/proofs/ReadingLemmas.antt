@@ -23,7 +23,7 @@ use Rattle.pn_scan.proofs.FedLemmas.{fed_front, fed_more, fed_no_character, fed_
 length_one : (b : List ℕ) (x : ℕ) → length (b ++ (x ∷ [])) ≡ suc (length b)
 length_one b x = omega (arith, length-append b (x ∷ []))
 
-take_whole : (b : List ℕ) (k : ℕ) → k ≡ length b → take k b ≡ b
+pub take_whole : (b : List ℕ) (k : ℕ) → k ≡ length b → take k b ≡ b
 take_whole b k e = subst (λ n. take n b ≡ b) (sym e) (take-length b)
 
 take_front : (b c : List ℕ) (k : ℕ) → k ≤ length b → take k (b ++ c) ≡ take k b

@@ -8,3 +8,4 @@ pub mod Modes
 pub mod Open
 pub mod Fed
 pub mod Reading
+pub mod Plain

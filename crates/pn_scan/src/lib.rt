@@ -10,6 +10,7 @@ pub mod laws;
 mod misc;
 mod mode;
 mod open_tree;
+mod plain;
 mod reference;
 mod run;
 mod scanner;

@@ -1,16 +1,18 @@
 //! The scanner.
 
-ghost use Rattle.std.specs.Prelude.{◌≡◌, ◌⊎◌, ◌≤◌, ◌++◌, ◌∷◌, ℕ, List, [], length, None, Some, IfOk, MatchResult};
+ghost use Rattle.std.specs.Prelude.{◌≡◌, ◌⊎◌, ◌<◌, ◌≤◌, ◌++◌, ◌∷◌, ℕ, List, [], length, take, None, Some, IfOk, MatchResult};
 ghost use Rattle.pn_markup.specs.Document.{IsDocument, IsFront};
 ghost use Rattle.pn_markup.specs.Offsets.{IsOrdered};
-ghost use Rattle.pn_scan.specs.Places.{IsWhere};
+ghost use Rattle.pn_scan.specs.Places.{place_of, IsWhere, Belongs};
+ghost use Rattle.pn_scan.specs.Modes.{state_of, Fits};
 ghost use Rattle.pn_scan.specs.State.{Place};
 ghost use Rattle.pn_scan.specs.Reading.{IsReading, IsBroken, IsTooLong, IsOnlyFront, IsMemory, HasReadTo, HasRead, EndsAt, answer_of, fault_of};
 
 use crate::advance::advance;
 use crate::characters::Open;
-use crate::mode::Mode;
+use crate::mode::{Brackets, Mode};
 use crate::open_tree::{OpenTree, Where};
+use crate::plain::take_plain;
 use pn_outside::limits::BYTES;
 use pn_tree::Tree;
 use std::alloc::{AllocError, Global};
@@ -50,6 +52,32 @@ fn is_at_end(mode: &Mode, place: Where, opened: Open) -> bool
     match mode {
         Mode::Item => matches!(place, Where::Behind) && matches!(opened, Open::Nothing),
         _ => false,
+    }
+}
+
+/// The front of a piece for which there is room.
+fn front_of(piece: &[u8], room: u64) -> &[u8]
+    requires { room ≤ BYTES }
+    ensures { result.now ≡ take room piece.now }
+{
+    if piece.len() as u64 <= room {
+        return piece;
+    }
+    &piece[..room as usize]
+}
+
+/// Between two items within an element a run begins.
+fn begin_run(alloc: Global, tree: &OpenTree, mode: &mut Mode)
+    requires { Belongs tree.now }
+    ensures state { state_of (place_of tree.now) mode.new ≡ state_of (place_of tree.now) mode.old }
+    ensures fits { Fits (place_of tree.now) mode.old → Fits (place_of tree.now) mode.new }
+{
+    if matches!(mode, Mode::Item) && matches!(tree.place(), Where::Within) {
+        *mode = Mode::Run {
+            text: Vec::new(alloc),
+            brackets: Brackets::Zero,
+            cr: false,
+        };
     }
 }
 
@@ -94,6 +122,43 @@ impl Scanner {
         }
     }
 
+    /// Takes the bytes at the front of a piece that stand for themselves here; answers how many.
+    fn read_plain(&mut self, piece: &[u8]) -> Result<usize, AllocError>
+        requires { (b : List ℕ) × IsReading self.old.tree self.old.mode self.old.opened self.old.count b }
+        ensures within { IfOk result (λ n. n ≤ length piece.now) }
+        ensures read { IfOk result (λ n. (b : List ℕ) → IsReading self.old.tree self.old.mode self.old.opened self.old.count b
+            → IsReading self.new.tree self.new.mode self.new.opened self.new.count (b ++ take n piece.now)) }
+        ensures fault { fault_of self.new ≡ fault_of self.old }
+    {
+        let Open::Nothing = self.opened else {
+            return Ok(0);
+        };
+        begin_run(self.alloc, &self.tree, &mut self.mode);
+        let plain = take_plain(&mut self.mode, front_of(piece, BYTES - self.count))?;
+        self.count += plain as u64;
+        Ok(plain)
+    }
+
+    /// Takes the bytes at the front of a piece that stand for themselves here, where no fault was
+    /// found yet; answers how many.
+    fn take_plain(&mut self, piece: &[u8]) -> usize
+        requires { (b : List ℕ) × HasRead self.old b }
+        ensures within { result ≤ length piece.now }
+        ensures read { (b : List ℕ) → HasRead self.old b → HasRead self.new (b ++ take result piece.now) }
+        ensures again { (f : ScanFault) → fault_of self.old ≡ Some f → fault_of self.new ≡ Some f }
+    {
+        if self.fault.is_some() {
+            return 0;
+        }
+        match self.read_plain(piece) {
+            Ok(plain) => plain,
+            Err(error) => {
+                self.fault = Some(ScanFault::Memory(error));
+                0
+            }
+        }
+    }
+
     /// Takes a byte, where no fault was found yet.
     fn take(&mut self, byte: u8)
         requires { (b : List ℕ) × HasRead self.old b }
@@ -104,6 +169,24 @@ impl Scanner {
             Some(_) => {}
             None => self.fault = self.read(byte),
         }
+    }
+
+    /// Takes bytes at the front of a piece; answers how many: those that stand for themselves here,
+    /// or else one.
+    fn take_front(&mut self, piece: &[u8]) -> usize
+        requires read { (b : List ℕ) × HasRead self.old b }
+        requires some { 0 < length piece.now }
+        ensures some { 0 < result }
+        ensures within { result ≤ length piece.now }
+        ensures read { (b : List ℕ) → HasRead self.old b → HasRead self.new (b ++ take result piece.now) }
+        ensures again { (f : ScanFault) → fault_of self.old ≡ Some f → fault_of self.new ≡ Some f }
+    {
+        let plain = self.take_plain(piece);
+        if plain > 0 {
+            return plain;
+        }
+        self.take(piece[0]);
+        1
     }
 
     /// The fault that was found, if any.
@@ -130,8 +213,9 @@ impl Scanner {
         ensures too_long { (b : List ℕ) → HasRead self.new b → result ≡ Err ScanFault.TooLong → IsTooLong b }
         ensures longer { (b : List ℕ) → HasRead self.new b → IsTooLong b → (result ≡ Err ScanFault.TooLong) ⊎ IsMemory result }
     {
-        for byte in piece {
-            self.take(*byte);
+        let mut at = 0;
+        while at < piece.len() {
+            at += self.take_front(&piece[at..]);
         }
         self.answer()
     }

@@ -1,0 +1,348 @@
+-- Bytes that stand for themselves, many at once.
+use Rattle.std.proofs.Common.{◌≡◌, ℕ, ◌+◌, ◌-◌, one-add, ◌≤◌, Bool, true, false, cond, nat_lt, ◌==◌, ◌&&◌, ◌||◌, List, [], ◌∷◌, ◌++◌, length, length-drop, take, drop, Some, None, refl, sym, ap, ◌∙◌, subst, append_assoc, append-nil, length-append, length-take, arith}
+use Rattle.std.specs.List.{list_all, prefix_len}
+use Rattle.std.proofs.lemmas.List.{take-append-drop, take-take, drop-take}
+use Rattle.std.proofs.lemmas.List.Sums.{prefix_len-le-length}
+use Rattle.std.proofs.lemmas.Bool.{false≢true, eqb-true, and_parts}
+use Rattle.std.proofs.lemmas.Bool.Decides.{nat_tests}
+use Rattle.pn_tree.specs.Characters.{is_within, is_character, is_name_part}
+use Rattle.pn_tree.specs.declared.element.Element.{Element}
+use Rattle.pn_outside.specs.declared.limits.TheConstants.{BYTES}
+use Rattle.pn_markup.specs.Bytes.{is_space}
+use Rattle.pn_markup.specs.Tags.{named}
+use Rattle.pn_scan.specs.State.{State, Place, no_bracket, at_start, outside, at_end, in_run, at_markup, at_bang, in_comment, in_target, in_instruction, in_section, in_name, in_tag, in_attribute, before_equals, behind_equals, in_value, at_reference, in_entity, at_number, in_number, due, in_end, in_declaration, before_part_equals, behind_part_equals, in_part}
+use Rattle.pn_scan.specs.Step.{step, step_run, step_section, step_value, step_tag, line_text, space_text}
+use Rattle.pn_scan.specs.Characters.{character_step}
+use Rattle.pn_scan.specs.Places.{place_of, levels_of, inner_of, outer_of, levels_for, outer_for}
+use Rattle.pn_scan.specs.Modes.{state_of, Fits}
+use Rattle.pn_scan.specs.Open.{open_bytes}
+use Rattle.pn_scan.specs.Fed.{Fed}
+use Rattle.pn_scan.specs.Reading.{IsReading}
+use Rattle.pn_scan.specs.Plain.{is_ascii, is_plain_text, is_plain_name, is_plain_value, is_plain_but, never, plain_text, plain_value, plain_but, is_plain, behind_plain}
+use Rattle.pn_scan.specs.declared.open_tree.OpenTree.{OpenTree}
+use Rattle.pn_scan.specs.declared.mode.Brackets.{Brackets}
+use Rattle.pn_scan.specs.declared.mode.Brackets.TheVariants.{Zero, One, Two}
+use Rattle.pn_scan.specs.declared.mode.Mode.{Mode}
+use Rattle.pn_scan.specs.declared.mode.Mode.TheVariants as modes
+use Rattle.pn_scan.specs.declared.characters.Open.{Open}
+use Rattle.pn_scan.proofs.StepLemmas.{if_true, if_false}
+use Rattle.pn_scan.proofs.FedLemmas.{fed_more}
+use Rattle.pn_scan.proofs.ReadingLemmas.{take_whole}
+
+-- kinds of bytes
+
+text_ascii : (x : ℕ) → is_plain_text x ≡ true → is_ascii x ≡ true
+text_ascii x h = grind (arith, nat_tests)
+
+name_ascii : (x : ℕ) → is_plain_name x ≡ true → is_ascii x ≡ true
+name_ascii x h = grind (arith, nat_tests)
+
+value_ascii : (quote x : ℕ) → is_plain_value quote x ≡ true → is_ascii x ≡ true
+value_ascii quote x h = grind (arith, nat_tests)
+
+but_ascii : (mark x : ℕ) → is_plain_but mark x ≡ true → is_ascii x ≡ true
+but_ascii mark x h = grind (arith, nat_tests)
+
+not_mark : (mark x : ℕ) → is_plain_but mark x ≡ true → (x == mark) ≡ false
+not_mark mark x h = grind (arith, nat_tests)
+
+ascii_low : (x : ℕ) → is_ascii x ≡ true → (nat_lt x 0x80 && is_character x) ≡ true
+ascii_low x h = grind (arith, nat_tests)
+
+ascii_step : (x : ℕ) → is_ascii x ≡ true → character_step [] x ≡ Some []
+ascii_step x h = if_true (nat_lt x 0x80 && is_character x) (Some []) (cond (is_within 0xC2 0xF4 x) (Some (x ∷ [])) None) (ascii_low x h)
+
+-- what each makes of a state
+
+line_plain : (x : ℕ) → (x == 13) ≡ false → line_text false x ≡ x ∷ []
+line_plain x h = if_false (x == 13) (10 ∷ []) (cond ((x == 10) && false) [] (x ∷ [])) h ∙ go (x == 10)
+  where
+    go : (b : Bool) → cond (b && false) [] (x ∷ []) ≡ x ∷ []
+    go true = refl
+    go false = refl
+
+run_step : (levels : ℕ) (e : Element) (outer : List Element) (text : List ℕ) (at x : ℕ) → is_plain_text x ≡ true
+    → step_run levels e outer text no_bracket false at x ≡ Some (in_run levels e outer (text ++ (x ∷ [])) no_bracket false)
+run_step levels e outer text at x h =
+    let e60 : (x == 60) ≡ false = grind (arith, nat_tests) in
+    let e38 : (x == 38) ≡ false = grind (arith, nat_tests) in
+    let e62 : (x == 62) ≡ false = grind (arith, nat_tests) in
+    let e93 : (x == 93) ≡ false = grind (arith, nat_tests) in
+    let e13 : (x == 13) ≡ false = grind (arith, nat_tests) in
+    rw (e60, e38, e62, line_plain x e13, e93, e13) refl
+
+section_step : (levels : ℕ) (e : Element) (outer : List Element) (text : List ℕ) (x : ℕ) → is_plain_text x ≡ true
+    → step_section levels e outer text no_bracket false x ≡ Some (in_section levels e outer (text ++ (x ∷ [])) no_bracket false)
+section_step levels e outer text x h =
+    let e93 : (x == 93) ≡ false = grind (arith, nat_tests) in
+    let e62 : (x == 62) ≡ false = grind (arith, nat_tests) in
+    let e13 : (x == 13) ≡ false = grind (arith, nat_tests) in
+    rw (e93, e62, line_plain x e13, e13, append-nil text) refl
+
+name_step : (levels : ℕ) (outer : List Element) (begin : ℕ) (name : List ℕ) (at x : ℕ) → is_plain_name x ≡ true
+    → step (in_name levels outer begin name) at x ≡ Some (in_name levels outer begin (name ++ (x ∷ [])))
+name_step levels outer begin name at x h =
+    if_true (is_name_part x) (Some (in_name levels outer begin (name ++ (x ∷ [])))) (step_tag levels outer (named name begin) false x)
+    (and_parts (nat_lt x 0x80) (is_name_part x) h).1
+
+attribute_step : (levels : ℕ) (outer : List Element) (e : Element) (name : List ℕ) (at x : ℕ) → is_plain_name x ≡ true
+    → step (in_attribute levels outer e name) at x ≡ Some (in_attribute levels outer e (name ++ (x ∷ [])))
+attribute_step levels outer e name at x h =
+    let part : is_name_part x ≡ true = (and_parts (nat_lt x 0x80) (is_name_part x) h).1 in
+    rw part refl
+
+not_return : (quote x : ℕ) → is_plain_value quote x ≡ true → (x == 13) ≡ false
+not_return quote x h = grind (arith, nat_tests)
+
+no_other_space : (quote x : ℕ) → is_plain_value quote x ≡ true → ((x == 9) || ((x == 10) || (x == 13))) ≡ false
+no_other_space quote x h = grind (arith, nat_tests)
+
+value_step : (levels : ℕ) (outer : List Element) (e : Element) (name : List ℕ) (quote : ℕ) (value : List ℕ) (x : ℕ) → is_plain_value quote x ≡ true
+    → step_value levels outer e name quote value false x ≡ Some (in_value levels outer e name quote (value ++ (x ∷ [])) false)
+value_step levels outer e name quote value x h =
+    let same : (x == quote) ≡ false = grind (arith, nat_tests) in
+    let e60 : (x == 60) ≡ false = grind (arith, nat_tests) in
+    let e38 : (x == 38) ≡ false = grind (arith, nat_tests) in
+    let e13 : (x == 13) ≡ false = grind (arith, nat_tests) in
+    let text : space_text false x ≡ x ∷ [] = space_plain in
+    rw (same, e60, e38, text, e13) refl
+  where
+    go : (a b c : Bool) → a ≡ false → (y : ℕ) → cond c 32 x ≡ y → cond a (32 ∷ []) (cond (b && false) [] (cond c 32 x ∷ [])) ≡ y ∷ []
+    go true b c h y e = absurd (false≢true (sym h))
+    go false true c h y e = ap (λ z. z ∷ []) e
+    go false false c h y e = ap (λ z. z ∷ []) e
+
+    as_it_is : (b c : Bool) → (x == 32) ≡ b → c ≡ false → cond (b || c) 32 x ≡ x
+    as_it_is true c e h = sym (eqb-true x 32 e)
+    as_it_is false true e h = absurd (false≢true (sym h))
+    as_it_is false false e h = refl
+
+    space_plain : space_text false x ≡ x ∷ []
+    space_plain = go (x == 13) (x == 10) (is_space x) (not_return quote x h) x (as_it_is (x == 32) ((x == 9) || ((x == 10) || (x == 13))) refl (no_other_space quote x h))
+
+-- a byte that stands for itself in a mode
+
+plain_low : (m : Mode) (x : ℕ) → is_plain m x ≡ true → character_step [] x ≡ Some []
+plain_low modes.Start x h = absurd (false≢true h)
+plain_low modes.First x h = absurd (false≢true h)
+plain_low modes.Item x h = absurd (false≢true h)
+plain_low (modes.Run text Zero false) x h = ascii_step x (text_ascii x h)
+plain_low (modes.Run text Zero true) x h = absurd (false≢true h)
+plain_low (modes.Run text One cr) x h = absurd (false≢true h)
+plain_low (modes.Run text Two cr) x h = absurd (false≢true h)
+plain_low (modes.Markup first begin) x h = absurd (false≢true h)
+plain_low modes.Bang x h = absurd (false≢true h)
+plain_low (modes.Comment true) x h = absurd (false≢true h)
+plain_low (modes.Comment false) x h = ascii_step x (but_ascii 45 x h)
+plain_low (modes.Target first name) x h = absurd (false≢true h)
+plain_low (modes.Instruction true) x h = absurd (false≢true h)
+plain_low (modes.Instruction false) x h = ascii_step x (but_ascii 63 x h)
+plain_low (modes.Section text Zero false) x h = ascii_step x (text_ascii x h)
+plain_low (modes.Section text Zero true) x h = absurd (false≢true h)
+plain_low (modes.Section text One cr) x h = absurd (false≢true h)
+plain_low (modes.Section text Two cr) x h = absurd (false≢true h)
+plain_low (modes.Name begin name) x h = ascii_step x (name_ascii x h)
+plain_low (modes.Tag spaced) x h = absurd (false≢true h)
+plain_low (modes.Attribute name) x h = ascii_step x (name_ascii x h)
+plain_low (modes.BeforeEquals name) x h = absurd (false≢true h)
+plain_low (modes.BehindEquals name) x h = absurd (false≢true h)
+plain_low (modes.Value name quote value true) x h = absurd (false≢true h)
+plain_low (modes.Value name quote value false) x h = ascii_step x (value_ascii quote x h)
+plain_low (modes.Reference holder) x h = absurd (false≢true h)
+plain_low (modes.Entity holder part) x h = absurd (false≢true h)
+plain_low (modes.NumberSign holder) x h = absurd (false≢true h)
+plain_low (modes.Number holder base number any) x h = absurd (false≢true h)
+plain_low (modes.Due left next) x h = absurd (false≢true h)
+plain_low (modes.EndName read) x h = absurd (false≢true h)
+plain_low (modes.Declaration stage spaced) x h = absurd (false≢true h)
+plain_low (modes.BeforePartEquals part) x h = absurd (false≢true h)
+plain_low (modes.BehindPartEquals part) x h = absurd (false≢true h)
+plain_low (modes.PartValue part quote value) x h = absurd (false≢true h)
+
+plain_step : (m : Mode) (p : Place) (ys : List ℕ) (at x : ℕ) → is_plain m x ≡ true → step (behind_plain (state_of p m) ys) at x ≡ Some (behind_plain (state_of p m) (ys ++ (x ∷ [])))
+plain_step modes.Start p ys at x h = absurd (false≢true h)
+plain_step modes.First p ys at x h = absurd (false≢true h)
+plain_step modes.Item p ys at x h = absurd (false≢true h)
+plain_step (modes.Run text Zero false) p ys at x h = run_step (levels_of p) (inner_of p) (outer_of p) (text.items ++ ys) at x h ∙ ap (λ l. Some (in_run (levels_of p) (inner_of p) (outer_of p) l no_bracket false)) (append_assoc text.items ys (x ∷ []))
+plain_step (modes.Run text Zero true) p ys at x h = absurd (false≢true h)
+plain_step (modes.Run text One cr) p ys at x h = absurd (false≢true h)
+plain_step (modes.Run text Two cr) p ys at x h = absurd (false≢true h)
+plain_step (modes.Markup first begin) p ys at x h = absurd (false≢true h)
+plain_step modes.Bang p ys at x h = absurd (false≢true h)
+plain_step (modes.Comment true) p ys at x h = absurd (false≢true h)
+plain_step (modes.Comment false) p ys at x h = if_false (x == 45) (Some (in_comment p true)) (Some (in_comment p false)) (not_mark 45 x h)
+plain_step (modes.Target first name) p ys at x h = absurd (false≢true h)
+plain_step (modes.Instruction true) p ys at x h = absurd (false≢true h)
+plain_step (modes.Instruction false) p ys at x h = if_false (x == 63) (Some (in_instruction p true)) (Some (in_instruction p false)) (not_mark 63 x h)
+plain_step (modes.Section text Zero false) p ys at x h = section_step (levels_of p) (inner_of p) (outer_of p) (text.items ++ ys) x h ∙ ap (λ l. Some (in_section (levels_of p) (inner_of p) (outer_of p) l no_bracket false)) (append_assoc text.items ys (x ∷ []))
+plain_step (modes.Section text Zero true) p ys at x h = absurd (false≢true h)
+plain_step (modes.Section text One cr) p ys at x h = absurd (false≢true h)
+plain_step (modes.Section text Two cr) p ys at x h = absurd (false≢true h)
+plain_step (modes.Name begin name) p ys at x h = name_step (levels_for p) (outer_for p) begin (name.items ++ ys) at x h ∙ ap (λ l. Some (in_name (levels_for p) (outer_for p) begin l)) (append_assoc name.items ys (x ∷ []))
+plain_step (modes.Tag spaced) p ys at x h = absurd (false≢true h)
+plain_step (modes.Attribute name) p ys at x h = attribute_step (levels_of p) (outer_of p) (inner_of p) (name.items ++ ys) at x h ∙ ap (λ l. Some (in_attribute (levels_of p) (outer_of p) (inner_of p) l)) (append_assoc name.items ys (x ∷ []))
+plain_step (modes.BeforeEquals name) p ys at x h = absurd (false≢true h)
+plain_step (modes.BehindEquals name) p ys at x h = absurd (false≢true h)
+plain_step (modes.Value name quote value true) p ys at x h = absurd (false≢true h)
+plain_step (modes.Value name quote value false) p ys at x h = value_step (levels_of p) (outer_of p) (inner_of p) name.items quote (value.items ++ ys) x h ∙ ap (λ l. Some (in_value (levels_of p) (outer_of p) (inner_of p) name.items quote l false)) (append_assoc value.items ys (x ∷ []))
+plain_step (modes.Reference holder) p ys at x h = absurd (false≢true h)
+plain_step (modes.Entity holder part) p ys at x h = absurd (false≢true h)
+plain_step (modes.NumberSign holder) p ys at x h = absurd (false≢true h)
+plain_step (modes.Number holder base number any) p ys at x h = absurd (false≢true h)
+plain_step (modes.Due left next) p ys at x h = absurd (false≢true h)
+plain_step (modes.EndName read) p ys at x h = absurd (false≢true h)
+plain_step (modes.Declaration stage spaced) p ys at x h = absurd (false≢true h)
+plain_step (modes.BeforePartEquals part) p ys at x h = absurd (false≢true h)
+plain_step (modes.BehindPartEquals part) p ys at x h = absurd (false≢true h)
+plain_step (modes.PartValue part quote value) p ys at x h = absurd (false≢true h)
+
+pub behind_none : (s : State) → behind_plain s [] ≡ s
+behind_none at_start = refl
+behind_none (outside first) = refl
+behind_none (at_end root) = refl
+behind_none (in_run levels e outer text b cr) = ap (λ l. in_run levels e outer l b cr) (append-nil text)
+behind_none (at_markup first place begin) = refl
+behind_none (at_bang place) = refl
+behind_none (in_comment place dash) = refl
+behind_none (in_target first place name) = refl
+behind_none (in_instruction place question) = refl
+behind_none (in_section levels e outer text b cr) = ap (λ l. in_section levels e outer l b cr) (append-nil text)
+behind_none (in_name levels outer begin name) = ap (λ l. in_name levels outer begin l) (append-nil name)
+behind_none (in_tag levels outer e spaced) = refl
+behind_none (in_attribute levels outer e name) = ap (λ l. in_attribute levels outer e l) (append-nil name)
+behind_none (before_equals levels outer e name) = refl
+behind_none (behind_equals levels outer e name) = refl
+behind_none (in_value levels outer e name quote value cr) = ap (λ l. in_value levels outer e name quote l cr) (append-nil value)
+behind_none (at_reference holder) = refl
+behind_none (in_entity holder part) = refl
+behind_none (at_number holder) = refl
+behind_none (in_number holder base n any) = refl
+behind_none (due left s) = refl
+behind_none (in_end levels e outer) = refl
+behind_none (in_declaration stage spaced) = refl
+behind_none (before_part_equals part) = refl
+behind_none (behind_part_equals part) = refl
+behind_none (in_part part quote value) = refl
+
+fed_next : (m : Mode) (p : Place) (b ys xs : List ℕ) → Fed (behind_plain (state_of p m) ys) [] (b ++ ys) → list_all (is_plain m) xs ≡ true
+    → Fed (behind_plain (state_of p m) (ys ++ xs)) [] (b ++ (ys ++ xs))
+fed_next m p b ys [] f h = subst (λ l. Fed (behind_plain (state_of p m) l) [] (b ++ l)) (sym (append-nil ys)) f
+fed_next m p b ys (x ∷ xs) f h =
+    let s = state_of p m in
+    let both = and_parts (is_plain m x) (list_all (is_plain m) xs) h in
+    let one = fed_more (behind_plain s ys) [] (b ++ ys) x [] (behind_plain s (ys ++ (x ∷ []))) f (plain_low m x both.0) (plain_step m p ys (length (b ++ ys)) x both.0) in
+    let more = fed_next m p b (ys ++ (x ∷ [])) xs (subst (Fed (behind_plain s (ys ++ (x ∷ []))) []) (append_assoc b ys (x ∷ [])) one) both.1 in
+    subst (λ l. Fed (behind_plain s l) [] (b ++ l)) (append_assoc ys (x ∷ []) xs) more
+
+fed_plain : (m : Mode) (p : Place) (b xs : List ℕ) → Fed (state_of p m) [] b → list_all (is_plain m) xs ≡ true → Fed (behind_plain (state_of p m) xs) [] (b ++ xs)
+fed_plain m p b xs f h =
+    fed_next m p b [] xs (subst (λ s. Fed s [] (b ++ [])) (sym (behind_none (state_of p m))) (subst (Fed (state_of p m) []) (sym (append-nil b)) f)) h
+
+pub never_any : (xs : List ℕ) → prefix_len never xs ≡ 0
+never_any [] = refl
+never_any (x ∷ xs) = refl
+
+pub text_none : (b : Brackets) (cr : Bool) (xs : List ℕ) → cr ≡ true → prefix_len (plain_text b cr) xs ≡ 0
+text_none Zero true xs h = never_any xs
+text_none Zero false xs h = absurd (false≢true h)
+text_none One cr xs h = never_any xs
+text_none Two cr xs h = never_any xs
+
+pub value_none : (quote : ℕ) (cr : Bool) (xs : List ℕ) → cr ≡ true → prefix_len (plain_value quote cr) xs ≡ 0
+value_none quote true xs h = never_any xs
+value_none quote false xs h = absurd (false≢true h)
+
+pub but_none : (mark : ℕ) (behind : Bool) (xs : List ℕ) → behind ≡ true → prefix_len (plain_but mark behind) xs ≡ 0
+but_none mark true xs h = never_any xs
+but_none mark false xs h = absurd (false≢true h)
+
+-- the front that passes a test
+pub front_passes : (p : ℕ → Bool) (xs : List ℕ) → list_all p (take (prefix_len p xs) xs) ≡ true
+front_passes p [] = refl
+front_passes p (x ∷ xs) = go (p x) refl (front_passes p xs)
+  where
+    go : (b : Bool) → p x ≡ b → list_all p (take (prefix_len p xs) xs) ≡ true → list_all p (take (cond b (1 + prefix_len p xs) 0) (x ∷ xs)) ≡ true
+    go true e h = rw (one-add, e) h
+    go false e h = refl
+
+-- bytes that stand for themselves were taken
+pub plain_more : (tree : OpenTree) (mode mode2 : Mode) (opened : Open) (count count2 : ℕ) (b xs : List ℕ) → IsReading tree mode opened count b → open_bytes opened ≡ []
+    → list_all (is_plain mode) xs ≡ true → state_of (place_of tree) mode2 ≡ behind_plain (state_of (place_of tree) mode) xs → Fits (place_of tree) mode2 → count2 ≡ count + length xs
+    → count2 ≤ BYTES → IsReading tree mode2 opened count2 (b ++ xs)
+plain_more tree mode mode2 opened count count2 b xs r none plain state fits counted within =
+    let p = place_of tree in
+    let was : count ≡ length b = r.counted in
+    record {
+      belongs = r.belongs;
+      fits = fits;
+      fed =
+          subst (λ o. Fed (state_of p mode2) o (b ++ xs)) (sym none)
+          (subst (λ s. Fed s [] (b ++ xs)) (sym state) (fed_plain mode p b xs (subst (λ o. Fed (state_of p mode) o b) none r.fed) plain));
+      counted = omega (arith, length-append b xs);
+      within = omega (arith, length-append b xs);
+    }
+
+-- a mode that is the same state
+pub same_state : (tree : OpenTree) (mode mode2 : Mode) (opened : Open) (count : ℕ) (b : List ℕ) → IsReading tree mode opened count b
+    → state_of (place_of tree) mode2 ≡ state_of (place_of tree) mode → Fits (place_of tree) mode2 → IsReading tree mode2 opened count b
+same_state tree mode mode2 opened count b r state fits = record {
+  belongs = r.belongs;
+  fits = fits;
+  fed = subst (λ s. Fed s (open_bytes opened) b) (sym state) r.fed;
+  counted = r.counted;
+  within = r.within;
+}
+
+record Front (p : ℕ → Bool) (n room : ℕ) (piece front : List ℕ) : Type 0 where
+  pub all : list_all p (take n piece) ≡ true
+  pub same : take n front ≡ take n piece
+  pub size : length (take n piece) ≡ n
+  pub within : n ≤ room
+
+front_facts : (p : ℕ → Bool) (n room : ℕ) (piece front : List ℕ) → front ≡ take room piece → n ≡ prefix_len p front → Front p n room piece front
+front_facts p n room piece front is counted =
+    let le : n ≤ length front = subst (λ k. k ≤ length front) (sym counted) (prefix_len-le-length p front) in
+    let size : length front ≤ room = omega (arith, ap length is, length-take room piece) in
+    let within : n ≤ room = omega arith in
+    let same : take n front ≡ take n piece = ap (take n) is ∙ take-take n room piece within in
+    let all : list_all p (take n front) ≡ true = subst (λ k. list_all p (take k front) ≡ true) (sym counted) (front_passes p front) in
+    record {
+      all = subst (λ l. list_all p l ≡ true) same all;
+      same = same;
+      size = ap length (sym same) ∙ take_size front n le;
+      within = within;
+    }
+  where
+    take_size : (l : List ℕ) (n : ℕ) → n ≤ length l → length (take n l) ≡ n
+    take_size l n h = omega (arith, length-take n l)
+
+-- the front of a piece, as far as there is room, in the mode that was begun
+pub plain_read : (tree : OpenTree) (mode begun mode2 : Mode) (opened : Open) (count room n : ℕ) (b piece front : List ℕ) → IsReading tree mode opened count b → open_bytes opened ≡ []
+    → state_of (place_of tree) begun ≡ state_of (place_of tree) mode → Fits (place_of tree) begun → room ≡ BYTES - count → front ≡ take room piece → n ≡ prefix_len (is_plain begun) front
+    → state_of (place_of tree) mode2 ≡ behind_plain (state_of (place_of tree) begun) (take n front) → Fits (place_of tree) mode2
+    → IsReading tree mode2 opened (count + n) (b ++ take n piece)
+plain_read tree mode begun mode2 opened count room n b piece front r none state fits roomy is counted behind fits2 =
+    let f = front_facts (is_plain begun) n room piece front is counted in
+    let was : count ≡ length b = r.counted in
+    let held : length b ≤ BYTES = r.within in
+    let size : length (take n piece) ≡ n = f.size in
+    let within : n ≤ room = f.within in
+    plain_more tree begun mode2 opened count (count + n) b (take n piece) (same_state tree mode begun opened count b r state fits) none f.all
+    (behind ∙ ap (behind_plain (state_of (place_of tree) begun)) f.same) fits2 (ap (λ k. count + k) (sym size)) (omega arith)
+
+-- a piece, and what is left of it
+
+rest_whole : (bs : List ℕ) (at n : ℕ) → n ≡ length bs - at → take n (drop at bs) ≡ drop at bs
+rest_whole bs at n e = take_whole (drop at bs) n (e ∙ sym (length-drop at bs))
+
+take_on : (bs : List ℕ) (at n : ℕ) → take at bs ++ take n (drop at bs) ≡ take (at + n) bs
+take_on bs at n =
+    ap (λ l. l ++ take n (drop at bs)) (sym (take-take at (at + n) bs (omega arith))) ∙ ap (λ l. take at (take (at + n) bs) ++ l) (sym (drop-take at n bs))
+    ∙ take-append-drop at (take (at + n) bs)
+
+pub piece_on : (b bs : List ℕ) (at m n : ℕ) → m ≡ length bs - at → (b ++ take at bs) ++ take n (take m (drop at bs)) ≡ b ++ take (at + n) bs
+piece_on b bs at m n e =
+    append_assoc b (take at bs) (take n (take m (drop at bs))) ∙ ap (λ l. b ++ l) (ap (λ l. take at bs ++ take n l) (rest_whole bs at m e) ∙ take_on bs at n)
+
+pub within_on : (bs : List ℕ) (at m n : ℕ) → m ≡ length bs - at → at ≤ length bs → n ≤ length (take m (drop at bs)) → at + n ≤ length bs
+within_on bs at m n e h k = omega (arith, ap length (rest_whole bs at m e), length-drop at bs)

@@ -1,0 +1,134 @@
+//! Bytes that stand for themselves, many at once.
+
+ghost use Rattle.std.specs.Prelude.{◌≡◌, ◌≤◌, ◌++◌, length, take, IfOk};
+ghost use Rattle.std.specs.List.{prefix_len};
+ghost use Rattle.pn_scan.specs.State.{Place};
+ghost use Rattle.pn_scan.specs.Modes.{state_of, Fits};
+ghost use Rattle.pn_scan.specs.Plain.{is_ascii, is_plain_text, is_plain_name, is_plain_value, is_plain_but, plain_text, plain_value, plain_but, is_plain, behind_plain};
+
+use crate::bytes::continues_name;
+use crate::mode::{Brackets, Mode};
+use std::alloc::AllocError;
+
+/// A character of one byte, but CR.
+fn is_ascii_byte(byte: u8) -> bool
+    ensures { result ≡ is_ascii byte }
+{
+    byte == b'\t' || byte == b'\n' || 0x20 <= byte && byte <= 0x7F
+}
+
+/// A byte that stands for itself in content.
+fn is_text_byte(byte: u8) -> bool
+    ensures { result ≡ is_plain_text byte }
+{
+    is_ascii_byte(byte) && !(byte == b'<' || byte == b'&' || byte == b'>' || byte == b']')
+}
+
+/// A byte that stands for itself in a name.
+fn is_name_byte(byte: u8) -> bool
+    ensures { result ≡ is_plain_name byte }
+{
+    byte < 0x80 && continues_name(byte)
+}
+
+/// A byte that stands for itself in a value in these quotes.
+fn is_value_byte(quote: u8, byte: u8) -> bool
+    ensures { result ≡ is_plain_value quote byte }
+{
+    0x20 <= byte && byte <= 0x7F && !(byte == quote || byte == b'<' || byte == b'&')
+}
+
+/// How many bytes at the front of a piece stand for themselves in content behind these brackets,
+/// in CR or not.
+#[tactic(auto, using(crate::proofs::PlainLemmas::never_any, crate::proofs::PlainLemmas::text_none))]
+fn text_front(brackets: Brackets, cr: bool, piece: &[u8]) -> usize
+    ensures value { result ≡ prefix_len (plain_text brackets cr) piece.now }
+    ensures within { result ≤ length piece.now }
+{
+    if cr {
+        return 0;
+    }
+    match brackets {
+        Brackets::Zero => piece.iter().take_while(|byte| is_text_byte(**byte)).count(),
+        _ => 0,
+    }
+}
+
+/// How many bytes at the front of a piece stand for themselves in a name.
+fn name_front(piece: &[u8]) -> usize
+    ensures value { result ≡ prefix_len is_plain_name piece.now }
+    ensures within { result ≤ length piece.now }
+{
+    piece.iter().take_while(|byte| is_name_byte(**byte)).count()
+}
+
+/// How many bytes at the front of a piece stand for themselves in a value in these quotes, behind
+/// a CR or not.
+#[tactic(auto, using(crate::proofs::PlainLemmas::value_none))]
+fn value_front(quote: u8, cr: bool, piece: &[u8]) -> usize
+    ensures value { result ≡ prefix_len (plain_value quote cr) piece.now }
+    ensures within { result ≤ length piece.now }
+{
+    if cr {
+        return 0;
+    }
+    piece
+        .iter()
+        .take_while(|byte| is_value_byte(quote, **byte))
+        .count()
+}
+
+/// How many bytes at the front of a piece stand for themselves where this byte may begin an end,
+/// behind one or not.
+#[tactic(auto, using(crate::proofs::PlainLemmas::but_none))]
+fn front_before(mark: u8, behind: bool, piece: &[u8]) -> usize
+    ensures value { result ≡ prefix_len (plain_but mark behind) piece.now }
+    ensures within { result ≤ length piece.now }
+{
+    if behind {
+        return 0;
+    }
+    piece
+        .iter()
+        .take_while(|byte| is_ascii_byte(**byte) && **byte != mark)
+        .count()
+}
+
+/// Puts the front of a piece to a text.
+fn put_front(text: &mut Vec<u8>, piece: &[u8], size: usize) -> Result<usize, AllocError>
+    requires { size ≤ length piece.now }
+    ensures size { IfOk result (λ n. n ≡ size) }
+    ensures text { IfOk result (λ n. text.new.items ≡ text.old.items ++ take n piece.now) }
+{
+    text.extend_from_slice(&piece[..size])?;
+    Ok(size)
+}
+
+/// Takes the bytes at the front of a piece that stand for themselves in a mode; answers how many.
+#[tactic(auto, using(crate::proofs::PlainLemmas::behind_none, crate::proofs::PlainLemmas::never_any))]
+pub(crate) fn take_plain(mode: &mut Mode, piece: &[u8]) -> Result<usize, AllocError>
+    ensures front { IfOk result (λ n. n ≡ prefix_len (is_plain mode.old) piece.now) }
+    ensures within { IfOk result (λ n. n ≤ length piece.now) }
+    ensures state { IfOk result (λ n. (p : Place) → state_of p mode.new ≡ behind_plain (state_of p mode.old) (take n piece.now)) }
+    ensures fits { IfOk result (λ n. (p : Place) → Fits p mode.old → Fits p mode.new) }
+{
+    match mode {
+        Mode::Run { text, brackets, cr } => {
+            put_front(text, piece, text_front(*brackets, *cr, piece))
+        }
+        Mode::Section { text, brackets, cr } => {
+            put_front(text, piece, text_front(*brackets, *cr, piece))
+        }
+        Mode::Name { name, .. } => put_front(name, piece, name_front(piece)),
+        Mode::Attribute { name } => put_front(name, piece, name_front(piece)),
+        Mode::Value {
+            quote,
+            value,
+            cr,
+            ..
+        } => put_front(value, piece, value_front(*quote, *cr, piece)),
+        Mode::Comment { dash } => Ok(front_before(b'-', *dash, piece)),
+        Mode::Instruction { question } => Ok(front_before(b'?', *question, piece)),
+        _ => Ok(0),
+    }
+}
