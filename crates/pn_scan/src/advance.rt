@@ -16,9 +16,9 @@ use crate::run::{item, run, section};
 use crate::tag::{end_name, name, tag};
 use std::alloc::{AllocError, Global};
 
-/// What a byte at the offset `at` makes of a mode, or `None` where no markup goes on so. After an
-/// error nothing is known of the tree.
-pub(crate) fn advance(
+/// What a byte makes of any mode.
+#[inline(never)]
+fn advance_any(
     alloc: Global,
     tree: &mut OpenTree,
     mode: Mode,
@@ -72,5 +72,42 @@ pub(crate) fn advance(
         Mode::BeforePartEquals { part } => Ok(part_equals(part, at, byte)),
         Mode::BehindPartEquals { part } => Ok(part_quote(alloc, part, at, byte)),
         Mode::PartValue { part, quote, value } => part_value(alloc, part, quote, value, byte),
+    }
+}
+
+/// What a byte at the offset `at` makes of a mode, or `None` where no markup goes on so. After an
+/// error nothing is known of the tree. The modes of most bytes come first, apart from the others:
+/// a function pays for all that its arms keep.
+pub(crate) fn advance(
+    alloc: Global,
+    tree: &mut OpenTree,
+    mode: Mode,
+    at: u64,
+    byte: u8,
+) -> Result<Option<Mode>, AllocError>
+    requires belongs { Belongs tree.old }
+    requires fits { Fits (place_of tree.old) mode }
+    requires kept { IsKept (place_of tree.old) mode }
+    requires whole { byte < 128 → IsWhole mode }
+    ensures step { IfOk result (λ m. option_map (state_of (place_of tree.new)) m ≡ step (state_of (place_of tree.old) mode) at byte) }
+    ensures fits { IfOk result (λ m. IfSome m (Fits (place_of tree.new))) }
+    ensures belongs { OnOk result (Belongs tree.new) }
+{
+    match mode {
+        Mode::Item => item(alloc, tree, at, byte),
+        Mode::Run { text, brackets, cr } => run(tree, text, brackets, cr, at, byte),
+        Mode::Name { begin, name: part } => name(alloc, tree, begin, part, at, byte),
+        Mode::Tag { spaced } => tag(alloc, tree, spaced, byte),
+        Mode::Attribute { name } => attribute(tree, name, at, byte),
+        Mode::BehindEquals { name } => Ok(quote(alloc, name, byte)),
+        Mode::Value {
+            name,
+            quote,
+            value: part,
+            cr,
+        } => value(tree, name, quote, part, cr, byte),
+        Mode::Due { left, then } => Ok(due(alloc, left, then, byte)),
+        Mode::EndName { read } => Ok(end_name(tree, read, at, byte)),
+        other => advance_any(alloc, tree, other, at, byte),
     }
 }

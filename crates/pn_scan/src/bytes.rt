@@ -1,8 +1,10 @@
 //! Kinds of bytes.
 
-ghost use Rattle.std.specs.Prelude.{◌≡◌};
+ghost use Rattle.std.specs.Prelude.{◌≡◌, ◌∷◌, [], IfOk};
 ghost use Rattle.pn_tree.specs.Characters.{is_name_start, is_name_part};
 ghost use Rattle.pn_markup.specs.Bytes.{is_space, is_quote};
+
+use std::alloc::{AllocError, Global};
 
 /// White space (XML 1.0, 2.3).
 pub(crate) fn is_space_byte(byte: u8) -> bool
@@ -30,4 +32,13 @@ pub(crate) fn continues_name(byte: u8) -> bool
     ensures { result ≡ is_name_part byte }
 {
     begins_name(byte) || byte.is_ascii_digit() || byte == b'-' || byte == b'.'
+}
+
+/// A name that begins with this byte, with room for a usual one.
+pub(crate) fn begin_name(alloc: Global, byte: u8) -> Result<Vec<u8>, AllocError>
+    ensures { IfOk result (λ name. name.items ≡ byte ∷ []) }
+{
+    let mut name = Vec::with_capacity(alloc, 16)?;
+    name.push(byte)?;
+    Ok(name)
 }

@@ -9,7 +9,7 @@ ghost use Rattle.pn_scan.specs.Step.{step, step_outside, step_markup, step_bang,
 ghost use Rattle.pn_scan.specs.Places.{IsWhere, IsRoom};
 ghost use Rattle.pn_scan.specs.Modes.{state_of, then_of, Fits, FitsThen};
 
-use crate::bytes::{begins_name, continues_name, is_space_byte};
+use crate::bytes::{begin_name, begins_name, continues_name, is_space_byte};
 use crate::mode::{Brackets, Mode, Stage, Then};
 use crate::open_tree::Where;
 use std::alloc::{AllocError, Global};
@@ -209,7 +209,7 @@ pub(crate) fn markup(
         },
         _ => {
             if room && begins_name(byte) {
-                let name = vec![in alloc; byte]?;
+                let name = begin_name(alloc, byte)?;
                 return Ok(Some(Mode::Name { begin, name }));
             }
             Ok(None)

@@ -8,7 +8,7 @@ ghost use Rattle.pn_scan.specs.Places.{place_of, is_inside, levels_of, inner_of,
 ghost use Rattle.pn_scan.specs.State.{Place, in_name};
 ghost use Rattle.pn_scan.specs.Modes.{state_of, end_state, end_of, IsTag, Fits};
 
-use crate::bytes::{begins_name, continues_name, is_space_byte};
+use crate::bytes::{begin_name, begins_name, continues_name, is_space_byte};
 use crate::mode::{Mode, Then};
 use crate::open_tree::OpenTree;
 use std::alloc::{AllocError, Global};
@@ -41,7 +41,7 @@ pub(crate) fn tag(
         return Ok(Some(Mode::Item));
     }
     if spaced && begins_name(byte) {
-        let name = vec![in alloc; byte]?;
+        let name = begin_name(alloc, byte)?;
         return Ok(Some(Mode::Attribute { name }));
     }
     Ok(None)
