@@ -1,9 +1,9 @@
 -- Bytes that stand for themselves, many at once.
-use Rattle.std.proofs.Common.{◌≡◌, ℕ, ◌+◌, ◌-◌, one-add, ◌≤◌, Bool, true, false, cond, nat_lt, ◌==◌, ◌&&◌, ◌||◌, List, [], ◌∷◌, ◌++◌, length, length-drop, take, drop, Some, None, refl, sym, ap, ◌∙◌, subst, append_assoc, append-nil, length-append, length-take, arith}
-use Rattle.std.specs.List.{list_all, prefix_len}
+use Rattle.std.proofs.Common.{◌≡◌, ℕ, zero, suc, add-zero, add-one, ◌+◌, ◌-◌, one-add, ◌≤◌, Bool, true, false, cond, nat_lt, ◌==◌, ◌&&◌, ◌||◌, List, [], ◌∷◌, ◌++◌, length, length-drop, take, drop, Some, None, refl, sym, ap, ◌∙◌, subst, append_assoc, append-nil, length-append, length-take, arith}
+use Rattle.std.specs.List.{list_all, prefix_len, slice_get}
 use Rattle.std.proofs.lemmas.List.{take-append-drop, take-take, drop-take}
-use Rattle.std.proofs.lemmas.List.Sums.{prefix_len-le-length}
-use Rattle.std.proofs.lemmas.Bool.{false≢true, eqb-true, and_parts}
+use Rattle.std.proofs.lemmas.List.Sums.{prefix_len-le-length, common_prefix_len-le}
+use Rattle.std.proofs.lemmas.Bool.{false≢true, eqb-true, and_parts, and_from}
 use Rattle.std.proofs.lemmas.Bool.Decides.{nat_tests}
 use Rattle.pn_tree.specs.Characters.{is_within, is_character, is_name_part}
 use Rattle.pn_tree.specs.declared.element.Element.{Element}
@@ -14,18 +14,19 @@ use Rattle.pn_scan.specs.State.{State, Place, no_bracket, at_start, outside, at_
 use Rattle.pn_scan.specs.Step.{step, step_run, step_section, step_value, step_tag, line_text, space_text}
 use Rattle.pn_scan.specs.Characters.{character_step}
 use Rattle.pn_scan.specs.Places.{place_of, levels_of, inner_of, outer_of, levels_for, outer_for}
-use Rattle.pn_scan.specs.Modes.{state_of, Fits}
+use Rattle.pn_scan.specs.Modes.{state_of, end_of, Fits}
 use Rattle.pn_scan.specs.Open.{open_bytes}
 use Rattle.pn_scan.specs.Fed.{Fed}
 use Rattle.pn_scan.specs.Reading.{IsReading}
-use Rattle.pn_scan.specs.Plain.{is_ascii, is_plain_text, is_plain_name, is_plain_value, is_plain_but, never, plain_text, plain_value, plain_but, is_plain, behind_plain}
+use Rattle.pn_scan.specs.Plain.{is_ascii, is_plain_text, is_plain_name, is_plain_value, is_plain_but, never, plain_text, plain_value, plain_but, plain_space, due_front, is_plain, behind_plain}
 use Rattle.pn_scan.specs.declared.open_tree.OpenTree.{OpenTree}
 use Rattle.pn_scan.specs.declared.mode.Brackets.{Brackets}
 use Rattle.pn_scan.specs.declared.mode.Brackets.TheVariants.{Zero, One, Two}
 use Rattle.pn_scan.specs.declared.mode.Mode.{Mode}
 use Rattle.pn_scan.specs.declared.mode.Mode.TheVariants as modes
 use Rattle.pn_scan.specs.declared.characters.Open.{Open}
-use Rattle.pn_scan.proofs.StepLemmas.{if_true, if_false}
+use Rattle.pn_scan.proofs.StepLemmas.{if_true, if_false, end_some}
+use Rattle.pn_scan.proofs.Tools.{head_is, tail_is, no_head}
 use Rattle.pn_scan.proofs.FedLemmas.{fed_more}
 use Rattle.pn_scan.proofs.ReadingLemmas.{take_whole}
 
@@ -120,6 +121,15 @@ value_step levels outer e name quote value x h =
     space_plain : space_text false x ≡ x ∷ []
     space_plain = go (x == 13) (x == 10) (is_space x) (not_return quote x h) x (as_it_is (x == 32) ((x == 9) || ((x == 10) || (x == 13))) refl (no_other_space quote x h))
 
+space_low : (x : ℕ) → is_space x ≡ true → (nat_lt x 0x80 && is_character x) ≡ true
+space_low x h = grind (arith, nat_tests)
+
+space_alone : (x : ℕ) → is_space x ≡ true → character_step [] x ≡ Some []
+space_alone x h = if_true (nat_lt x 0x80 && is_character x) (Some []) (cond (is_within 0xC2 0xF4 x) (Some (x ∷ [])) None) (space_low x h)
+
+space_step : (levels : ℕ) (outer : List Element) (e : Element) (x : ℕ) → is_space x ≡ true → step_tag levels outer e true x ≡ Some (in_tag levels outer e true)
+space_step levels outer e x h = rw h refl
+
 -- a byte that stands for itself in a mode
 
 plain_low : (m : Mode) (x : ℕ) → is_plain m x ≡ true → character_step [] x ≡ Some []
@@ -142,7 +152,8 @@ plain_low (modes.Section text Zero true) x h = absurd (false≢true h)
 plain_low (modes.Section text One cr) x h = absurd (false≢true h)
 plain_low (modes.Section text Two cr) x h = absurd (false≢true h)
 plain_low (modes.Name begin name) x h = ascii_step x (name_ascii x h)
-plain_low (modes.Tag spaced) x h = absurd (false≢true h)
+plain_low (modes.Tag true) x h = space_alone x h
+plain_low (modes.Tag false) x h = absurd (false≢true h)
 plain_low (modes.Attribute name) x h = ascii_step x (name_ascii x h)
 plain_low (modes.BeforeEquals name) x h = absurd (false≢true h)
 plain_low (modes.BehindEquals name) x h = absurd (false≢true h)
@@ -179,7 +190,8 @@ plain_step (modes.Section text Zero true) p ys at x h = absurd (false≢true h)
 plain_step (modes.Section text One cr) p ys at x h = absurd (false≢true h)
 plain_step (modes.Section text Two cr) p ys at x h = absurd (false≢true h)
 plain_step (modes.Name begin name) p ys at x h = name_step (levels_for p) (outer_for p) begin (name.items ++ ys) at x h ∙ ap (λ l. Some (in_name (levels_for p) (outer_for p) begin l)) (append_assoc name.items ys (x ∷ []))
-plain_step (modes.Tag spaced) p ys at x h = absurd (false≢true h)
+plain_step (modes.Tag true) p ys at x h = space_step (levels_of p) (outer_of p) (inner_of p) x h
+plain_step (modes.Tag false) p ys at x h = absurd (false≢true h)
 plain_step (modes.Attribute name) p ys at x h = attribute_step (levels_of p) (outer_of p) (inner_of p) (name.items ++ ys) at x h ∙ ap (λ l. Some (in_attribute (levels_of p) (outer_of p) (inner_of p) l)) (append_assoc name.items ys (x ∷ []))
 plain_step (modes.BeforeEquals name) p ys at x h = absurd (false≢true h)
 plain_step (modes.BehindEquals name) p ys at x h = absurd (false≢true h)
@@ -256,6 +268,10 @@ pub but_none : (mark : ℕ) (behind : Bool) (xs : List ℕ) → behind ≡ true 
 but_none mark true xs h = never_any xs
 but_none mark false xs h = absurd (false≢true h)
 
+pub space_none : (spaced : Bool) (xs : List ℕ) → spaced ≡ false → prefix_len (plain_space spaced) xs ≡ 0
+space_none true xs h = absurd (false≢true (sym h))
+space_none false xs h = never_any xs
+
 -- the front that passes a test
 pub front_passes : (p : ℕ → Bool) (xs : List ℕ) → list_all p (take (prefix_len p xs) xs) ≡ true
 front_passes p [] = refl
@@ -293,6 +309,9 @@ same_state tree mode mode2 opened count b r state fits = record {
   within = r.within;
 }
 
+take_size : (l : List ℕ) (n : ℕ) → n ≤ length l → length (take n l) ≡ n
+take_size l n h = omega (arith, length-take n l)
+
 record Front (p : ℕ → Bool) (n room : ℕ) (piece front : List ℕ) : Type 0 where
   pub all : list_all p (take n piece) ≡ true
   pub same : take n front ≡ take n piece
@@ -312,9 +331,6 @@ front_facts p n room piece front is counted =
       size = ap length (sym same) ∙ take_size front n le;
       within = within;
     }
-  where
-    take_size : (l : List ℕ) (n : ℕ) → n ≤ length l → length (take n l) ≡ n
-    take_size l n h = omega (arith, length-take n l)
 
 -- the front of a piece, as far as there is room, in the mode that was begun
 pub plain_read : (tree : OpenTree) (mode begun mode2 : Mode) (opened : Open) (count room n : ℕ) (b piece front : List ℕ) → IsReading tree mode opened count b → open_bytes opened ≡ []
@@ -346,3 +362,74 @@ piece_on b bs at m n e =
 
 pub within_on : (bs : List ℕ) (at m n : ℕ) → m ≡ length bs - at → at ≤ length bs → n ≤ length (take m (drop at bs)) → at + n ≤ length bs
 within_on bs at m n e h k = omega (arith, ap length (rest_whole bs at m e), length-drop at bs)
+
+-- the name of an end tag
+
+pub due_le : (wanted piece : List ℕ) → (due_front wanted piece ≤ length wanted) × (due_front wanted piece ≤ length piece)
+due_le wanted piece = common_prefix_len-le (λ d x. (d == x) && is_plain_name x) wanted piece
+
+due_facts : (wanted piece : List ℕ) → (take (due_front wanted piece) piece ≡ take (due_front wanted piece) wanted) × (list_all is_plain_name (take (due_front wanted piece) piece) ≡ true)
+due_facts [] piece = (refl, refl)
+due_facts (d ∷ ds) [] = (refl, refl)
+due_facts (d ∷ ds) (x ∷ xs) = go ((d == x) && is_plain_name x) refl (due_facts ds xs)
+  where
+    n : ℕ
+    n = due_front ds xs
+
+    go : (b : Bool) → ((d == x) && is_plain_name x) ≡ b → (take n xs ≡ take n ds) × (list_all is_plain_name (take n xs) ≡ true)
+        → (take (cond b (1 + n) 0) (x ∷ xs) ≡ take (cond b (1 + n) 0) (d ∷ ds)) × (list_all is_plain_name (take (cond b (1 + n) 0) (x ∷ xs)) ≡ true)
+    go true e h =
+        let both = and_parts (d == x) (is_plain_name x) e in
+        let same : d ≡ x = eqb-true d x both.0 in
+        rw one-add (ap (λ l. x ∷ l) h.0 ∙ ap (λ z. z ∷ take n ds) (sym same), and_from (is_plain_name x) (list_all is_plain_name (take n xs)) both.1 h.1)
+    go false e h = (refl, refl)
+
+drop_next : (l : List ℕ) (i x : ℕ) (t : List ℕ) → drop i l ≡ x ∷ t → (slice_get l i ≡ Some x) × (drop (suc i) l ≡ t)
+drop_next [] zero x t h = absurd (no_head x t h)
+drop_next [] (suc i) x t h = absurd (no_head x t h)
+drop_next (y ∷ ys) zero x t h = (ap Some (head_is y x ys t h), tail_is y x ys t h)
+drop_next (y ∷ ys) (suc i) x t h = drop_next ys i x t h
+
+itself : (x : ℕ) → (x == x) ≡ true
+itself x = grind (arith, nat_tests)
+
+fed_name : (p : Place) (read : ℕ) (b xs rest : List ℕ) → Fed (end_of p read) [] b → drop read (inner_of p).name ≡ xs ++ rest → list_all is_plain_name xs ≡ true
+    → Fed (end_of p (read + length xs)) [] (b ++ xs)
+fed_name p read b [] rest f is h = subst (λ l. Fed (end_of p (read + 0)) [] l) (sym (append-nil b)) (subst (λ n. Fed (end_of p n) [] b) (sym (add-zero read)) f)
+fed_name p read b (x ∷ xs) rest f is h =
+    let both = and_parts (is_plain_name x) (list_all is_plain_name xs) h in
+    let next = drop_next (inner_of p).name read x (xs ++ rest) is in
+    let goes : step (end_of p read) (length b) x ≡ Some (end_of p (read + 1)) =
+    end_some p read x (length b) x next.0 ∙ if_true (x == x) (Some (end_of p (read + 1))) None (itself x)
+    in
+    let one = fed_more (end_of p read) [] b x [] (end_of p (read + 1)) f (ascii_step x (name_ascii x both.0)) goes in
+    let more = fed_name p (read + 1) (b ++ (x ∷ [])) xs rest one (rw add-one next.1) both.1 in
+    let sum : (read + 1) + length xs ≡ read + suc (length xs) = omega arith in
+    subst (λ n. Fed (end_of p n) [] (b ++ (x ∷ xs))) sum (subst (Fed (end_of p ((read + 1) + length xs)) []) (append_assoc b (x ∷ []) xs) more)
+
+pub name_read : (tree : OpenTree) (mode : Mode) (opened : Open) (count room read n : ℕ) (b piece front : List ℕ) → IsReading tree mode opened count b → open_bytes opened ≡ []
+    → mode ≡ modes.EndName read → room ≡ BYTES - count → front ≡ take room piece → n ≡ due_front (drop read (inner_of (place_of tree)).name) front
+    → IsReading tree (modes.EndName (read + n)) opened (count + n) (b ++ take n piece)
+name_read tree mode opened count room read n b piece front r none m roomy is counted =
+    let p = place_of tree in
+    let wanted = drop read (inner_of p).name in
+    let le : n ≤ length front = subst (λ k. k ≤ length front) (sym counted) (due_le wanted front).1 in
+    let size : length front ≤ room = omega (arith, ap length is, length-take room piece) in
+    let same : take n front ≡ take n piece = ap (take n) is ∙ take-take n room piece (omega arith) in
+    let facts = due_facts wanted front in
+    let xs = take n piece in
+    let whole : wanted ≡ xs ++ drop n wanted =
+    sym (take-append-drop n wanted) ∙ ap (λ l. l ++ drop n wanted) (subst (λ k. take k wanted ≡ take k front) (sym counted) (sym facts.0) ∙ same)
+    in
+    let plain : list_all is_plain_name xs ≡ true = subst (λ l. list_all is_plain_name l ≡ true) same (subst (λ k. list_all is_plain_name (take k front) ≡ true) (sym counted) facts.1) in
+    let many : length xs ≡ n = ap length (sym same) ∙ take_size front n le in
+    let f : Fed (end_of p read) [] b = subst (λ s. Fed s [] b) (ap (state_of p) m) (subst (λ o. Fed (state_of p mode) o b) none r.fed) in
+    let was : count ≡ length b = r.counted in
+    let held : length b ≤ BYTES = r.within in
+    record {
+      belongs = r.belongs;
+      fits = subst (Fits p) m r.fits;
+      fed = subst (λ o. Fed (end_of p (read + n)) o (b ++ xs)) (sym none) (subst (λ k. Fed (end_of p (read + k)) [] (b ++ xs)) many (fed_name p read b xs (drop n wanted) f whole plain));
+      counted = omega (arith, length-append b xs);
+      within = omega (arith, length-append b xs);
+    }

@@ -1,6 +1,8 @@
 -- Bytes that stand for themselves where a mode is, so that many are taken at once.
 use Rattle.std.specs.Prelude.{ℕ, Bool, true, false, ◌==◌, ◌&&◌, ◌||◌, not, List, ◌++◌, nat_lt}
+use Rattle.std.specs.List.{common_prefix_len}
 use Rattle.pn_tree.specs.Characters.{is_within, is_name_part}
+use Rattle.pn_markup.specs.Bytes.{is_space}
 use Rattle.pn_scan.specs.State.{State, in_run, in_section, in_name, in_attribute, in_value}
 use Rattle.pn_scan.specs.declared.mode.Brackets.{Brackets}
 use Rattle.pn_scan.specs.declared.mode.Brackets.TheVariants.{Zero, One, Two}
@@ -45,16 +47,26 @@ abbrev pub plain_but : ℕ → Bool → ℕ → Bool
 plain_but mark false = is_plain_but mark
 plain_but mark true = never
 
+-- white space in a tag behind white space
+abbrev pub plain_space : Bool → ℕ → Bool
+plain_space true = is_space
+plain_space false = never
+
 -- whether a byte stands for itself in a mode
 abbrev pub is_plain : Mode → ℕ → Bool
 is_plain (modes.Run text brackets cr) = plain_text brackets cr
 is_plain (modes.Section text brackets cr) = plain_text brackets cr
 is_plain (modes.Name begin name) = is_plain_name
+is_plain (modes.Tag spaced) = plain_space spaced
 is_plain (modes.Attribute name) = is_plain_name
 is_plain (modes.Value name quote value cr) = plain_value quote cr
 is_plain (modes.Comment dash) = plain_but 45 dash
 is_plain (modes.Instruction question) = plain_but 63 question
 is_plain _ = never
+
+-- how many bytes at the front of a piece are those that are due of a name
+abbrev pub due_front : List ℕ → List ℕ → ℕ
+due_front due piece = common_prefix_len (λ d x. (d == x) && is_plain_name x) due piece
 
 -- the state behind bytes that stand for themselves
 abbrev pub behind_plain : State → List ℕ → State

@@ -1,13 +1,15 @@
 //! The tree as far as it was read.
 
-ghost use Rattle.std.specs.Prelude.{◌≡◌, ◌<◌, ◌-◌, true, false, [], suc, is_some, slice_get, IfSome, OnOk};
+ghost use Rattle.std.specs.Prelude.{◌≡◌, ◌<◌, ◌≤◌, ◌+◌, ◌-◌, true, false, [], suc, length, drop, is_some, slice_get, IfSome, OnOk};
 ghost use Rattle.pn_tree.specs.Characters.{is_name, is_text};
 ghost use Rattle.pn_tree.specs.Building.{with_attr, with_text};
 ghost use Rattle.pn_tree.specs.Elements.{attr_value};
 ghost use Rattle.pn_markup.specs.Tags.{named};
 ghost use Rattle.pn_scan.specs.State.{before, within};
 ghost use Rattle.pn_scan.specs.Places.{place_of, is_inside, levels_of, inner_of, outer_of, levels_for, outer_for, HasRoom, IsRoom, IsWhere, behind_place, Belongs};
+ghost use Rattle.pn_scan.specs.Plain.{due_front};
 
+use crate::plain::due_front;
 use indexmap::IndexSet;
 use pn_text::Text;
 use pn_tree::{Builder, Tree};
@@ -51,6 +53,18 @@ fn byte_at(bytes: &[u8], index: usize) -> Option<u8>
         return Some(bytes[index]);
     }
     None
+}
+
+/// How many bytes at the front of a piece are those that are due behind so many of a name.
+fn front_behind(name: &[u8], read: usize, piece: &[u8]) -> usize
+    ensures value { result ≡ due_front (drop read name.now) piece.now }
+    ensures within { result ≤ length piece.now }
+    ensures fits { read + result ≤ usize.MAX }
+{
+    if name.len() <= read {
+        return 0;
+    }
+    due_front(&name[read..], piece)
 }
 
 impl OpenTree {
@@ -157,6 +171,21 @@ impl OpenTree {
     {
         match self.names.last() {
             Some(name) => byte_at(name.as_str().as_bytes(), index),
+            None => unreachable!(),
+        }
+    }
+
+    /// How many bytes at the front of a piece are those that are due behind so many of the name of
+    /// the innermost open element.
+    pub(crate) fn name_front(&self, read: usize, piece: &[u8]) -> usize
+        requires belongs { Belongs self.now }
+        requires inside { is_inside (place_of self.now) ≡ true }
+        ensures value { result ≡ due_front (drop read (inner_of (place_of self.now)).name) piece.now }
+        ensures within { result ≤ length piece.now }
+        ensures fits { read + result ≤ usize.MAX }
+    {
+        match self.names.last() {
+            Some(name) => front_behind(name.as_str().as_bytes(), read, piece),
             None => unreachable!(),
         }
     }

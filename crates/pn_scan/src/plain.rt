@@ -4,9 +4,9 @@ ghost use Rattle.std.specs.Prelude.{◌≡◌, ◌≤◌, ◌++◌, length, take
 ghost use Rattle.std.specs.List.{prefix_len};
 ghost use Rattle.pn_scan.specs.State.{Place};
 ghost use Rattle.pn_scan.specs.Modes.{state_of, Fits};
-ghost use Rattle.pn_scan.specs.Plain.{is_ascii, is_plain_text, is_plain_name, is_plain_value, is_plain_but, plain_text, plain_value, plain_but, is_plain, behind_plain};
+ghost use Rattle.pn_scan.specs.Plain.{is_ascii, is_plain_text, is_plain_name, is_plain_value, is_plain_but, plain_text, plain_value, plain_but, plain_space, due_front, is_plain, behind_plain};
 
-use crate::bytes::continues_name;
+use crate::bytes::{continues_name, is_space_byte};
 use crate::mode::{Brackets, Mode};
 use std::alloc::AllocError;
 
@@ -94,6 +94,37 @@ fn front_before(mark: u8, behind: bool, piece: &[u8]) -> usize
         .count()
 }
 
+/// How many bytes at the front of a piece are white space, behind white space or not.
+#[tactic(auto, using(crate::proofs::PlainLemmas::space_none))]
+fn space_front(spaced: bool, piece: &[u8]) -> usize
+    ensures value { result ≡ prefix_len (plain_space spaced) piece.now }
+    ensures within { result ≤ length piece.now }
+{
+    if !spaced {
+        return 0;
+    }
+    piece
+        .iter()
+        .take_while(|byte| is_space_byte(**byte))
+        .count()
+}
+
+/// How many bytes at the front of a piece are those that are due of a name.
+pub(crate) fn due_front(due: &[u8], piece: &[u8]) -> usize
+    ensures value { result ≡ due_front due.now piece.now }
+    ensures of_due { result ≤ length due.now }
+    ensures within { result ≤ length piece.now }
+{
+    let mut at = 0;
+    while at < due.len() && at < piece.len() {
+        if due[at] != piece[at] || !is_name_byte(piece[at]) {
+            return at;
+        }
+        at += 1;
+    }
+    at
+}
+
 /// Puts the front of a piece to a text.
 fn put_front(text: &mut Vec<u8>, piece: &[u8], size: usize) -> Result<usize, AllocError>
     requires { size ≤ length piece.now }
@@ -120,6 +151,7 @@ pub(crate) fn take_plain(mode: &mut Mode, piece: &[u8]) -> Result<usize, AllocEr
             put_front(text, piece, text_front(*brackets, *cr, piece))
         }
         Mode::Name { name, .. } => put_front(name, piece, name_front(piece)),
+        Mode::Tag { spaced } => Ok(space_front(*spaced, piece)),
         Mode::Attribute { name } => put_front(name, piece, name_front(piece)),
         Mode::Value {
             quote,

@@ -139,6 +139,29 @@ impl Scanner {
         Ok(plain)
     }
 
+    /// Takes the bytes at the front of a piece that are due of the name of an end tag; answers how
+    /// many.
+    fn read_name(&mut self, piece: &[u8]) -> usize
+        requires { (b : List ℕ) × IsReading self.old.tree self.old.mode self.old.opened self.old.count b }
+        ensures within { result ≤ length piece.now }
+        ensures read { (b : List ℕ) → IsReading self.old.tree self.old.mode self.old.opened self.old.count b
+            → IsReading self.new.tree self.new.mode self.new.opened self.new.count (b ++ take result piece.now) }
+        ensures fault { fault_of self.new ≡ fault_of self.old }
+    {
+        let Open::Nothing = self.opened else {
+            return 0;
+        };
+        let Mode::EndName { read } = self.mode else {
+            return 0;
+        };
+        let size = self
+            .tree
+            .name_front(read, front_of(piece, BYTES - self.count));
+        self.mode = Mode::EndName { read: read + size };
+        self.count += size as u64;
+        size
+    }
+
     /// Takes the bytes at the front of a piece that stand for themselves here, where no fault was
     /// found yet; answers how many.
     fn take_plain(&mut self, piece: &[u8]) -> usize
@@ -151,6 +174,7 @@ impl Scanner {
             return 0;
         }
         match self.read_plain(piece) {
+            Ok(0) => self.read_name(piece),
             Ok(plain) => plain,
             Err(error) => {
                 self.fault = Some(ScanFault::Memory(error));
