@@ -96,6 +96,9 @@ pub(crate) fn advance(
     match mode {
         Mode::Item => item(alloc, tree, at, byte),
         Mode::Run { text, brackets, cr } => run(tree, text, brackets, cr, at, byte),
+        Mode::Markup { first, begin } => {
+            markup(alloc, tree.place(), tree.has_room(), first, begin, byte)
+        }
         Mode::Name { begin, name: part } => name(alloc, tree, begin, part, at, byte),
         Mode::Tag { spaced } => tag(alloc, tree, spaced, byte),
         Mode::Attribute { name } => attribute(tree, name, at, byte),
