@@ -1,5 +1,5 @@
 -- Which state of the machine a mode is, at a place, and at which places a mode can be.
-use Rattle.std.specs.Prelude.{◌≡◌, ◌⊎◌, ℕ, ◌<◌, ◌≤◌, List, true, false, ◌==◌, [], drop, Option, Some, None, if◌then◌else◌}
+use Rattle.std.specs.Prelude.{◌≡◌, ◌⊎◌, ℕ, ◌<◌, ◌≤◌, List, Bool, true, false, ◌==◌, [], drop, Option, Some, None, if◌then◌else◌}
 use Rattle.pn_markup.specs.Bytes.{is_space}
 use Rattle.pn_tree.specs.Characters.{is_text, is_name}
 use Rattle.pn_tree.specs.Elements.{attr_value}
@@ -146,6 +146,20 @@ IsWhole (modes.Name begin name) = is_name name.items ≡ true
 IsWhole (modes.Attribute name) = is_text name.items ≡ true
 IsWhole (modes.Value name quote value cr) = is_text value.items ≡ true
 IsWhole _ = Unit {0}
+
+-- a mode in which few bytes of a document stand
+abbrev pub is_rare : Mode → Bool
+is_rare modes.Item = false
+is_rare (modes.Run text brackets cr) = false
+is_rare (modes.Markup first begin) = false
+is_rare (modes.Name begin name) = false
+is_rare (modes.Tag spaced) = false
+is_rare (modes.Attribute name) = false
+is_rare (modes.BehindEquals name) = false
+is_rare (modes.Value name quote value cr) = false
+is_rare (modes.Due left next) = false
+is_rare (modes.EndName read) = false
+is_rare _ = true
 
 -- the name of an attribute whose value is read, and the quotes
 pub record IsNamed (p : Place) (name : List ℕ) (quote : ℕ) : Type 0 where

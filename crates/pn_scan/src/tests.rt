@@ -203,7 +203,11 @@ const NUMBERS: [(&str, u64); 11] = [
     ("<a>&#1114112;</a>", 11),
 ];
 
-const TREES: [(&str, &str); 14] = [
+const TREES: [(&str, &str); 15] = [
+    (
+        "<place id=\"a\"><toolspecific tool=\"d\" version=\"1\"><x:k v='1&lt;2'></x:k> </toolspecific></place>",
+        "<place id=\"a\"><toolspecific tool=\"d\" version=\"1\"><x:k v=\"1&lt;2\"/> </toolspecific></place>",
+    ),
     ("<a></a>", "<a/>"),
     ("\u{FEFF}<a  />\n<!-- -><?p ? >?>-->", "<a/>"),
     (

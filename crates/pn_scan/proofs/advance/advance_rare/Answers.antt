@@ -5,7 +5,7 @@ use Rattle.pn_scan.specs.Step.{step}
 use Rattle.pn_scan.specs.Places.{place_of}
 use Rattle.pn_scan.specs.Modes.{state_of, Fits}
 use Rattle.pn_scan.specs.declared.mode.Mode.{Mode}
-use Rattle.pn_scan.proofs.advance.advance_any.Goals as goal
+use Rattle.pn_scan.proofs.advance.advance_rare.Goals as goal
 
 pub returns-in-Start-clause-step : goal.returns-in-Start-clause-step
 returns-in-Start-clause-step c =
@@ -22,9 +22,6 @@ returns-in-Comment-clause-fits c = c.comment.ensures.fits (place_of c.args.tree.
 
 pub returns-in-Instruction-clause-fits : goal.returns-in-Instruction-clause-fits
 returns-in-Instruction-clause-fits c = c.instruction.ensures.fits (place_of c.args.tree.now)
-
-pub returns-in-Due-clause-fits : goal.returns-in-Due-clause-fits
-returns-in-Due-clause-fits c = let p = place_of c.args.tree.now in let fits = subst (Fits p) c.in-Due.is c.requires.fits in c.due.ensures.fits p fits.1
 
 pub returns-in-Declaration-clause-step : goal.returns-in-Declaration-clause-step
 returns-in-Declaration-clause-step c =
