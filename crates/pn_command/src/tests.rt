@@ -113,8 +113,23 @@ fn check_sums_a_plain_net_up(rt: HostRuntime) -> Result<(), Fail> {
     Ok(())
 }
 
+/// That the plain net with one part replaced by another is not yet taken.
+fn expect_not_yet(rt: &impl Abort, alloc: Global, part: &str, other: &str) -> Result<(), Fail> {
+    let document = with(alloc, part, other)?;
+    expect(
+        rt,
+        alloc,
+        &["check"],
+        document.as_str(),
+        Status::Refused,
+        "",
+        NOT_YET,
+    )?;
+    Ok(())
+}
+
 #[test]
-fn what_is_not_plain_is_not_yet(rt: HostRuntime) -> Result<(), Fail> {
+fn other_ids_and_ends_are_not_yet(rt: HostRuntime) -> Result<(), Fail> {
     let alloc = rt.alloc();
     for (part, other) in [
         ("<place id=\"b\"", "<place id=\"a\""),
@@ -125,6 +140,18 @@ fn what_is_not_plain_is_not_yet(rt: HostRuntime) -> Result<(), Fail> {
         ("source=\"a\" target=\"t\"", "source=\"g\" target=\"t\""),
         ("<transition id=\"t\"", "<transition id=\"t.\""),
         ("<net id=\"n\"", "<net id=\"\""),
+        ("source=\"a\" target=\"t\"", "target=\"t\" source=\"a\""),
+        ("grammar/pnml", "grammar/pnml "),
+    ] {
+        expect_not_yet(&rt, alloc, part, other)?;
+    }
+    Ok(())
+}
+
+#[test]
+fn other_labels_and_elements_are_not_yet(rt: HostRuntime) -> Result<(), Fail> {
+    let alloc = rt.alloc();
+    for (part, other) in [
         (">3<", ">03<"),
         (">3<", "><"),
         (">3<", "> 3<"),
@@ -134,8 +161,6 @@ fn what_is_not_plain_is_not_yet(rt: HostRuntime) -> Result<(), Fail> {
         ("<text>3", "<text x=\"y\">3"),
         ("/><transition", "/>.<transition"),
         ("<page", "<!-- no text -->text<page"),
-        ("source=\"a\" target=\"t\"", "target=\"t\" source=\"a\""),
-        ("grammar/pnml", "grammar/pnml "),
         ("<place id=\"b\"/>", "<place id=\"b\"><name/></place>"),
         (">3<", ">9223372036854775808<"),
         (
@@ -148,45 +173,40 @@ fn what_is_not_plain_is_not_yet(rt: HostRuntime) -> Result<(), Fail> {
             "target=\"t\"><inscription><text>0</text></inscription></arc>",
         ),
     ] {
-        let document = with(alloc, part, other)?;
-        expect(
-            &rt,
-            alloc,
-            &["check"],
-            document.as_str(),
-            Status::Refused,
-            "",
-            NOT_YET,
-        )?;
+        expect_not_yet(&rt, alloc, part, other)?;
     }
     Ok(())
+}
+
+/// What `flatten` writes for the plain net, in whatever layout it is.
+fn flattened(alloc: Global) -> Result<String, AllocError> {
+    let mut text = String::from_str(alloc, DECLARATION)?;
+    text.push_str(TRANSFER)?;
+    text.push_str("\n")?;
+    Ok(text)
+}
+
+/// That this document is the plain net.
+fn expect_flattened(rt: &impl Abort, alloc: Global, document: &str) -> Result<(), AllocError> {
+    let text = flattened(alloc)?;
+    expect(
+        rt,
+        alloc,
+        &["flatten"],
+        document,
+        Status::Done,
+        text.as_str(),
+        "",
+    )
 }
 
 #[test]
 fn flatten_writes_the_canonical_text(rt: HostRuntime) -> Result<(), Fail> {
     let alloc = rt.alloc();
-    let mut text = String::from_str(alloc, DECLARATION)?;
-    text.push_str(TRANSFER)?;
-    text.push_str("\n")?;
+    let text = flattened(alloc)?;
     assert_eq!(rt; text.len(), 373);
-    expect(
-        &rt,
-        alloc,
-        &["flatten"],
-        TRANSFER,
-        Status::Done,
-        text.as_str(),
-        "",
-    )?;
-    expect(
-        &rt,
-        alloc,
-        &["flatten"],
-        text.as_str(),
-        Status::Done,
-        text.as_str(),
-        "",
-    )?;
+    expect_flattened(&rt, alloc, TRANSFER)?;
+    expect_flattened(&rt, alloc, text.as_str())?;
     let line = "ptnet places 2 transitions 1 arcs 2 tokens 3\n";
     expect(
         &rt,
@@ -323,9 +343,9 @@ fn what_is_no_document_is_broken_at_its_break(rt: HostRuntime) -> Result<(), Fai
     Ok(())
 }
 
-#[test]
-fn layout_is_left_out(rt: HostRuntime) -> Result<(), Fail> {
-    let alloc = rt.alloc();
+/// The plain net behind a byte order mark, with a comment between its two places and a line end
+/// behind each tag but `<text>`.
+fn spread(alloc: Global) -> Result<String, Fail> {
     let commented = with(
         alloc,
         "<place id=\"b\"/>",
@@ -338,6 +358,13 @@ fn layout_is_left_out(rt: HostRuntime) -> Result<(), Fail> {
             spread.push('\n')?;
         }
     }
+    Ok(spread)
+}
+
+#[test]
+fn layout_is_left_out(rt: HostRuntime) -> Result<(), Fail> {
+    let alloc = rt.alloc();
+    let spread = spread(alloc)?;
     let line = "ptnet places 2 transitions 1 arcs 2 tokens 3\n";
     expect(
         &rt,
@@ -348,18 +375,13 @@ fn layout_is_left_out(rt: HostRuntime) -> Result<(), Fail> {
         line,
         "",
     )?;
-    let mut text = String::from_str(alloc, DECLARATION)?;
-    text.push_str(TRANSFER)?;
-    text.push_str("\n")?;
-    expect(
-        &rt,
-        alloc,
-        &["flatten"],
-        spread.as_str(),
-        Status::Done,
-        text.as_str(),
-        "",
-    )?;
+    expect_flattened(&rt, alloc, spread.as_str())?;
+    Ok(())
+}
+
+#[test]
+fn other_spellings_are_the_same_net(rt: HostRuntime) -> Result<(), Fail> {
+    let alloc = rt.alloc();
     for (part, other) in [
         ("<text>3<", "<text>&#51;<"),
         ("<text>3<", "<text><![CDATA[3]]><"),
@@ -372,15 +394,7 @@ fn layout_is_left_out(rt: HostRuntime) -> Result<(), Fail> {
         ("</pnml>", "</pnml>\n<!-- the end -->"),
     ] {
         let document = with(alloc, part, other)?;
-        expect(
-            &rt,
-            alloc,
-            &["flatten"],
-            document.as_str(),
-            Status::Done,
-            text.as_str(),
-            "",
-        )?;
+        expect_flattened(&rt, alloc, document.as_str())?;
     }
     Ok(())
 }
