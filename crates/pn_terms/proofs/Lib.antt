@@ -1,0 +1,5 @@
+pub mod KeepLemmas
+pub mod SortLemmas
+pub mod TermLemmas
+pub mod VariableLemmas
+pub mod WalkLemmas

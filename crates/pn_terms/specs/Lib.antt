@@ -1,0 +1,5 @@
+pub mod Rows
+pub mod Sorts
+pub mod Standing
+pub mod Terms
+pub mod Variables

@@ -1,0 +1,134 @@
+-- Which faults of typing stand in a term (ISO/IEC 15909-2, terms, in this project's profile).
+use Rattle.std.specs.Prelude.{◌≡◌, ◌⊎◌, ℕ, ℤ, List, [], ◌∷◌, codes, false, Option, None, Some}
+use Rattle.std.specs.List.{Contains}
+use Rattle.pn_faults.specs.declared.fault.Fault.{Fault}
+use Rattle.pn_faults.specs.Least.{lower}
+use Rattle.pn_faults.specs.Order.{fault_at}
+use Rattle.pn_faults.specs.declared.reason.Reason.TheVariants as reasons
+use Rattle.pn_values.specs.declared.declaration.Declaration.{Declaration}
+use Rattle.pn_values.specs.declared.sort.Sort.{Sort}
+use Rattle.pn_values.specs.declared.sort_expr.SortExpr.{SortExpr}
+use Rattle.pn_names.specs.Names.{constant_named, partition_named, variable_named}
+use Rattle.pn_operators.specs.declared.op.Op.{Op}
+use Rattle.pn_operators.specs.Operators.{name_of}
+use Rattle.pn_resolve.specs.Meaning.{Resolves}
+use Rattle.pn_resolve.specs.Standing.{StandsIn as SortFault}
+use Rattle.pn_resolve.specs.Tables.{KeepsLeast}
+use Rattle.pn_sorts.specs.Lookups.{IsBaseSort}
+use Rattle.pn_terms.specs.declared.term.NumberSort.{NumberSort}
+use Rattle.pn_terms.specs.declared.term.Term.{Term}
+use Rattle.pn_terms.specs.declared.term.TermSort.{TermSort}
+use Rattle.pn_terms.specs.declared.term.TermSort.TheVariants as terms
+use Rattle.pn_terms.specs.declared.term.TermNode.TheOpen as layer
+use Rattle.pn_terms.specs.Rows.{Fits}
+use Rattle.pn_terms.specs.Sorts.{HasSort, HaveSorts, is_good_number, is_in_range, is_small}
+use Rattle.pn_terms.specs.Terms.{IsPart, Layer, layer_of, parts_of}
+
+-- no variable has this name
+abbrev pub IsUnknownVariable : List Declaration → List ℕ → ℕ → Fault → Type 0
+IsUnknownVariable items name at f = (variable_named items name ≡ None) × (f ≡ fault_at reasons.UnknownVariable at name)
+
+-- neither a constant nor an element of a partition has this name
+abbrev pub IsUnknownOperator : List Declaration → List ℕ → ℕ → Fault → Type 0
+IsUnknownOperator items name at f = (constant_named items name ≡ None) × (f ≡ fault_at reasons.UnknownOperator at name)
+
+-- no partition has this name
+abbrev pub IsUnknownPartition : List Declaration → List ℕ → ℕ → Fault → Type 0
+IsUnknownPartition items name at f = (partition_named items name ≡ None) × (f ≡ fault_at reasons.UnknownPartition at name)
+
+-- a number is not of the sort that its constant names
+abbrev pub IsBadNumber : List Declaration → ℤ → NumberSort → ℕ → Fault → Type 0
+IsBadNumber items value sort at f = (is_good_number items value sort ≡ false) × (f ≡ fault_at reasons.BadConstant at (codes "numberconstant"))
+
+-- a number is not in the range that its constant names
+abbrev pub IsOutside : List Declaration → ℤ → ℤ → ℤ → ℕ → Fault → Type 0
+IsOutside items value start end at f = (is_in_range items value start end ≡ false) × (f ≡ fault_at reasons.BadConstant at (codes "finiteintrangeconstant"))
+
+-- the sort of which all values are taken is infinite, or has too many
+abbrev pub IsTooLarge : List Declaration → SortExpr → ℕ → Fault → Type 0
+IsTooLarge items e at f = (sort : Sort) × Resolves items e sort × (is_small items sort ≡ false) × (f ≡ fault_at reasons.AllTooLarge at (codes "all"))
+
+-- the partition of this name has another base sort
+abbrev pub IsWrongElement : List Declaration → List ℕ → List TermSort → ℕ → Fault → Type 0
+IsWrongElement items name ts at f = (p : ℕ) × (base : Sort) × (partition_named items name ≡ Some p) × IsBaseSort items p base × (ts ≡ terms.Basis base ∷ [] → ⊥) × (f ≡ fault_at reasons.WrongSort at (codes "partitionelementof"))
+
+-- arguments of these sorts do not fit the operator
+abbrev pub IsWrongFor : List Declaration → Op → List TermSort → ℕ → Fault → Type 0
+IsWrongFor items op ts at f = (Fits items op ts → ⊥) × (f ≡ fault_at reasons.WrongSort at (name_of op))
+
+-- a layer at this offset has this fault, whatever its parts are
+abbrev pub StandsAlways : List Declaration → Layer → ℕ → Fault → Type 0
+StandsAlways items (layer.Variable name) at f = IsUnknownVariable items name at f
+StandsAlways items (layer.UserOp name) at f = IsUnknownOperator items name at f
+StandsAlways items (layer.Bool truth) at f = ⊥
+StandsAlways items (layer.Number value sort) at f = IsBadNumber items value sort at f
+StandsAlways items (layer.RangeConst value start end) at f = IsOutside items value start end at f
+StandsAlways items (layer.All e) at f = IsTooLarge items e at f
+StandsAlways items (layer.Empty e) at f = ⊥
+StandsAlways items (layer.PartitionOf name arg) at f = IsUnknownPartition items name at f
+StandsAlways items (layer.Apply op args) at f = ⊥
+
+-- a layer at this offset has this fault, where its parts have these sorts
+abbrev pub StandsWith : List Declaration → Layer → List TermSort → ℕ → Fault → Type 0
+StandsWith items (layer.Variable name) ts at f = ⊥
+StandsWith items (layer.UserOp name) ts at f = ⊥
+StandsWith items (layer.Bool truth) ts at f = ⊥
+StandsWith items (layer.Number value sort) ts at f = ⊥
+StandsWith items (layer.RangeConst value start end) ts at f = ⊥
+StandsWith items (layer.All e) ts at f = ⊥
+StandsWith items (layer.Empty e) ts at f = ⊥
+StandsWith items (layer.PartitionOf name arg) ts at f = IsWrongElement items name ts at f
+StandsWith items (layer.Apply op args) ts at f = IsWrongFor items op ts at f
+
+-- the term itself has this fault: an unknown name or a bad constant; or each of its arguments has a sort, and they do not fit
+abbrev pub StandsAt : List Declaration → Term → Fault → Type 0
+StandsAt items e f = StandsAlways items (layer_of e) e.at f ⊎ ((ts : List TermSort) × HaveSorts items (parts_of e) ts × StandsWith items (layer_of e) ts e.at f)
+
+-- the term or a term in it has this fault
+abbrev pub StandsIn : List Declaration → Term → Fault → Type 0
+StandsIn items e f = (x : Term) × IsPart e x × StandsAt items x f
+
+-- one of the terms or a term in one has this fault
+abbrev pub StandsInSome : List Declaration → List Term → Fault → Type 0
+StandsInSome items es f = (e : Term) × Contains es e × StandsIn items e f
+
+-- no fault stands in the sort that a layer writes
+abbrev pub HasSoundSort : List Declaration → Layer → Type 0
+HasSoundSort items (layer.Variable name) = Unit {0}
+HasSoundSort items (layer.UserOp name) = Unit {0}
+HasSoundSort items (layer.Bool truth) = Unit {0}
+HasSoundSort items (layer.Number value sort) = Unit {0}
+HasSoundSort items (layer.RangeConst value start end) = Unit {0}
+HasSoundSort items (layer.All e) = (f : Fault) → SortFault items e f → ⊥
+HasSoundSort items (layer.Empty e) = (f : Fault) → SortFault items e f → ⊥
+HasSoundSort items (layer.PartitionOf name arg) = Unit {0}
+HasSoundSort items (layer.Apply op args) = Unit {0}
+
+-- no fault stands in the sorts that a term writes
+abbrev pub HasSoundSorts : List Declaration → Term → Type 0
+HasSoundSorts items e = (x : Term) → IsPart e x → HasSoundSort items (layer_of x)
+
+-- the sort of something, and no fault; or no sort, and this one fault more
+abbrev pub IsTold : (TermSort → Type 0) → (Fault → Type 0) → Option TermSort → Option Fault → Option Fault → Type 0
+IsTold Sorted Stands (Some s) old new = Sorted s × (new ≡ old)
+IsTold Sorted Stands None old new = (f : Fault) × Stands f × (new ≡ lower old (Some f))
+
+-- the sort of a term, or some fault in it
+abbrev pub SortOrFault : List Declaration → Term → Option TermSort → Type 0
+SortOrFault items e (Some s) = HasSort items e s
+SortOrFault items e None = (f : Fault) × StandsIn items e f
+
+-- the sorts of the terms, or some fault in one
+abbrev pub SortsOrFault : List Declaration → List Term → Option (List TermSort) → Type 0
+SortsOrFault items es (Some ts) = HaveSorts items es ts
+SortsOrFault items es None = (f : Fault) × StandsInSome items es f
+
+-- what a walk over a term tells: its sort or none, and the least of its faults and of the one so far
+pub record IsWalked (items : List Declaration) (e : Term) (sort : Option TermSort) (old new : Option Fault) : Type 0 where
+  pub sorted : SortOrFault items e sort
+  pub least : KeepsLeast (StandsIn items e) old new
+
+-- what a walk over terms tells
+pub record AreWalked (items : List Declaration) (es : List Term) (sorts : Option (List TermSort)) (old new : Option Fault) : Type 0 where
+  pub sorted : SortsOrFault items es sorts
+  pub least : KeepsLeast (StandsInSome items es) old new

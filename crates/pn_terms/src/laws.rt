@@ -1,0 +1,19 @@
+//! The laws of sorts of terms. A function here does nothing; its contract is the law.
+
+ghost use Rattle.std.specs.Prelude.{◌≡◌, List};
+ghost use Rattle.pn_faults.specs.declared.fault.Fault.{Fault};
+ghost use Rattle.pn_terms.specs.Sorts.{HasSort};
+ghost use Rattle.pn_terms.specs.Standing.{StandsIn};
+ghost use Rattle.pn_terms.specs.declared.term.Term.{Term};
+ghost use Rattle.pn_terms.specs.declared.term.TermSort.{TermSort};
+ghost use Rattle.pn_values.specs.declared.declaration.Declaration.{Declaration};
+
+/// A term has at most one sort.
+pub fn a_term_has_one_sort()
+    ensures { (items : List Declaration) (e : Term) (s t : TermSort) → HasSort items e s → HasSort items e t → s ≡ t }
+{}
+
+/// Where a term has a sort, no fault stands in it.
+pub fn what_has_a_sort_has_no_fault()
+    ensures { (items : List Declaration) (e : Term) (s : TermSort) (f : Fault) → HasSort items e s → StandsIn items e f → ⊥ }
+{}

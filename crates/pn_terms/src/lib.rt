@@ -1,0 +1,22 @@
+//! Terms of symmetric nets, and their sorts (ISO/IEC 15909-2, terms).
+#![tactic(auto)]
+
+mod family;
+pub mod laws;
+mod nodes;
+mod rules;
+mod sound;
+mod term;
+#[cfg(test)]
+mod tests;
+mod typing;
+mod variable_list;
+
+pub use pn_operators::{OP_TABLE, Op, OpRow, find_op, op_name, row_of};
+pub use sound::has_sound_sorts;
+pub use term::{NumberSort, Term, TermNode, TermSort};
+pub use typing::sort_of;
+pub use variable_list::variables;
+
+/// The greatest number of values of a sort of which `all` takes each once.
+pub const MAX_ALL: u128 = 1048576;

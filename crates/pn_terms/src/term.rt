@@ -1,0 +1,129 @@
+//! Terms and their sorts.
+
+ghost use Rattle.std.specs.Prelude.{◌≡◌, ◌↔◌, IfOk, IsTrue};
+
+use pn_operators::Op;
+use pn_sorts::{Sort, SortExpr};
+use pn_text::Text;
+use sqlite_items::{Boxed, Items};
+use std::alloc::{AllocError, Global};
+
+/// The sort that a number constant names.
+#[derive(Clone, Copy, Debug, PartialEq, Eq)]
+pub enum NumberSort {
+    Integer,
+    Natural,
+    Positive,
+}
+
+/// A term as a document writes it (ISO/IEC 15909-2, terms).
+#[derive(Debug, Drop)]
+#[cycle(term)]
+pub struct Term {
+    /// The offset of the start tag of its element.
+    pub at: u64,
+    pub node: TermNode,
+}
+
+/// What a term says. `Variable` names a variable, `UserOp` a constant or an element of a
+/// partition. `All` and `Empty` have the sort whose multisets they are of.
+#[derive(Debug, Drop)]
+#[cycle(term)]
+pub enum TermNode {
+    Variable(Text),
+    UserOp(Text),
+    Bool(bool),
+    Number { value: i64, sort: NumberSort },
+    RangeConst { value: i64, start: i64, end: i64 },
+    All(SortExpr),
+    Empty(SortExpr),
+    PartitionOf { partition: Text, arg: Boxed<Term> },
+    Apply { op: Op, args: Items<Term> },
+}
+
+/// The sort of a term: a basis sort, or the multisets over one.
+#[derive(Debug, Drop)]
+pub enum TermSort {
+    Basis(Sort),
+    Bag(Sort),
+}
+
+impl Term {
+    /// The same term, in memory of its own. The recursion goes by the height of the term.
+    #[cycle(copy)]
+    pub fn copy(&self, alloc: Global) -> Result<Term, AllocError>
+        ensures { IfOk result (λ term. term ≡ self.now) }
+    {
+        Ok(Term {
+            at: self.at,
+            node: self.node.copy(alloc)?,
+        })
+    }
+}
+
+impl TermNode {
+    /// The same, in memory of its own.
+    #[cycle(copy)]
+    pub fn copy(&self, alloc: Global) -> Result<TermNode, AllocError>
+        ensures { IfOk result (λ node. node ≡ self.now) }
+    {
+        match self {
+            TermNode::Variable(name) => Ok(TermNode::Variable(name.copy(alloc)?)),
+            TermNode::UserOp(name) => Ok(TermNode::UserOp(name.copy(alloc)?)),
+            TermNode::Bool(truth) => Ok(TermNode::Bool(*truth)),
+            TermNode::Number { value, sort } => Ok(TermNode::Number {
+                value: *value,
+                sort: *sort,
+            }),
+            TermNode::RangeConst { value, start, end } => Ok(TermNode::RangeConst {
+                value: *value,
+                start: *start,
+                end: *end,
+            }),
+            TermNode::All(sort) => Ok(TermNode::All(sort.copy(alloc)?)),
+            TermNode::Empty(sort) => Ok(TermNode::Empty(sort.copy(alloc)?)),
+            TermNode::PartitionOf { partition, arg } => Ok(TermNode::PartitionOf {
+                partition: partition.copy(alloc)?,
+                arg: Boxed::new(alloc, arg.get().copy(alloc)?)?,
+            }),
+            TermNode::Apply { op, args } => Ok(TermNode::Apply {
+                op: *op,
+                args: copy_all(alloc, args.as_slice())?,
+            }),
+        }
+    }
+}
+
+#[cycle(copy)]
+fn copy_all(alloc: Global, terms: &[Term]) -> Result<Items<Term>, AllocError>
+    ensures { IfOk result (λ all. all ≡ terms.now) }
+{
+    let mut all = Items::new(alloc);
+    for term in terms {
+        all.push(term.copy(alloc)?)?;
+    }
+    Ok(all)
+}
+
+impl TermSort {
+    /// The same sort, in memory of its own.
+    pub fn copy(&self, alloc: Global) -> Result<TermSort, AllocError>
+        ensures { IfOk result (λ sort. sort ≡ self.now) }
+    {
+        match self {
+            TermSort::Basis(sort) => Ok(TermSort::Basis(sort.copy(alloc)?)),
+            TermSort::Bag(sort) => Ok(TermSort::Bag(sort.copy(alloc)?)),
+        }
+    }
+
+    /// Whether the two sorts are the same.
+    pub fn is_same(&self, other: &TermSort) -> bool
+        ensures { IsTrue result ↔ (self.now ≡ other.now) }
+    {
+        match (self, other) {
+            (TermSort::Basis(one), TermSort::Basis(two)) => one.is_same(two),
+            (TermSort::Bag(one), TermSort::Bag(two)) => one.is_same(two),
+            _ => false,
+        }
+    }
+}
