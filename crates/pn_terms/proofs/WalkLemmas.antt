@@ -20,7 +20,8 @@ use Rattle.pn_terms.specs.Sorts.{Gives, HasSort, HaveSorts, IsOfAll, IsOfConstan
 use Rattle.pn_terms.specs.Standing.{AreWalked, HasSoundSort, HasSoundSorts, IsBadNumber, IsOutside, IsTold, IsTooLarge, IsUnknownOperator, IsUnknownPartition, IsUnknownVariable, IsWalked, IsWrongElement, IsWrongFor, SortOrFault, SortsOrFault, StandsAlways, StandsWith, StandsAt, StandsIn, StandsInSome}
 use Rattle.pn_terms.specs.Terms.{IsPart, itself, inside, Layer, layer_of, parts_in, parts_of}
 use Rattle.pn_terms.proofs.TermLemmas.{out_variable, out_constant, out_truth, out_number, out_range, out_all, out_empty, out_element, out_apply}
-use Rattle.pn_terms.proofs.KeepLemmas.{keeps_none, keeps_one, keeps_same, keeps_both}
+use Rattle.pn_sorts.proofs.SettleLemmas.{keeps_alike, keeps_nothing, keeps_one}
+use Rattle.pn_terms.proofs.KeepLemmas.{keeps_both}
 use Rattle.pn_terms.proofs.SortLemmas.{sorts_agree, sorted_not_always, sorted_not_with, always_once, with_once, always_not_with, all_sorted_no_fault}
 
 -- the faults of a node whose parts have these sorts
@@ -39,8 +40,9 @@ sorted_not_node items l ts s at f gives (inr h) = sorted_not_with items l ts s a
 
 node_keeps : (items : List Declaration) (l : Layer) (ts : List TermSort) (at : ℕ) (o : Option TermSort) (old new : Option Fault)
     → IsTold (Gives items l ts) (NodeFault items l ts at) o old new → KeepsLeast (NodeFault items l ts at) old new
-node_keeps items l ts at (Some s) old new told = keeps_none (NodeFault items l ts at) old new (λ f h. sorted_not_node items l ts s at f told.0 h) told.1
-node_keeps items l ts at None old new told = keeps_one (NodeFault items l ts at) old new told.0 told.1 (λ g h. node_once items l ts at told.0 g told.1 h) told.2
+node_keeps items l ts at (Some s) old new told =
+    subst (KeepsLeast (NodeFault items l ts at) old) (sym told.1) (keeps_nothing (NodeFault items l ts at) old (λ f h. sorted_not_node items l ts s at f told.0 h))
+node_keeps items l ts at None old new told = keeps_one (NodeFault items l ts at) told.0 old new told.1 (λ g h. node_once items l ts at told.0 g told.1 h) told.2
 
 -- a fault in a term is one in its parts or one of its node
 stands_in : (items : List Declaration) (e : Term) (ts : List TermSort) → HaveSorts items (parts_of e) ts → (f : Fault) → StandsInSome items (parts_of e) f ⊎ NodeFault items (layer_of e) ts e.at f → StandsIn items e f
@@ -69,7 +71,7 @@ pub walked_with : (items : List Declaration) (e : Term) (ts : List TermSort) (o 
     → IsTold (Gives items (layer_of e) ts) (NodeFault items (layer_of e) ts e.at) o mid new → IsWalked items e o old new
 walked_with items e ts o old mid new have parts told = record {
   sorted = told_sorted items e ts have o mid new told;
-  least = keeps_same (λ f. StandsInSome items (parts_of e) f ⊎ NodeFault items (layer_of e) ts e.at f) (StandsIn items e) old new (stands_in items e ts have) (stands_out items e ts have)
+  least = keeps_alike (λ f. StandsInSome items (parts_of e) f ⊎ NodeFault items (layer_of e) ts e.at f) (StandsIn items e) old new (stands_in items e ts have) (stands_out items e ts have)
       (keeps_both (StandsInSome items (parts_of e)) (NodeFault items (layer_of e) ts e.at) old mid new parts (node_keeps items (layer_of e) ts e.at o mid new told));
 }
 
@@ -86,7 +88,7 @@ pub walked_leaf : (items : List Declaration) (e : Term) (l : Layer) → layer_of
     → IsTold (Gives items l []) (StandsAlways items l e.at) o old new → IsWalked items e o old new
 walked_leaf items e l is alone o old new told =
     let no_parts : parts_of e ≡ [] = ap parts_in is ∙ alone in
-    walked_with items e [] o old old new (none (parts_of e) [] no_parts refl) (keeps_none (StandsInSome items (parts_of e)) old old (none_in_none items (parts_of e) no_parts) refl)
+    walked_with items e [] o old old new (none (parts_of e) [] no_parts refl) (keeps_nothing (StandsInSome items (parts_of e)) old (none_in_none items (parts_of e) no_parts))
     (subst (λ x. IsTold (Gives items x []) (NodeFault items x [] e.at) o old new) (sym is)
     (told_more (Gives items l []) (StandsAlways items l e.at) (NodeFault items l [] e.at) (λ f h. inl h) o old new told))
 
@@ -108,7 +110,7 @@ pub walked_without : (items : List Declaration) (e : Term) (g : Fault) (old mid 
     → KeepsLeast (StandsAlways items (layer_of e) e.at) mid new → IsWalked items e None old new
 walked_without items e g old mid new broken parts node = record {
   sorted = (g, stands_so items e g (inl broken));
-  least = keeps_same (λ f. StandsInSome items (parts_of e) f ⊎ StandsAlways items (layer_of e) e.at f) (StandsIn items e) old new (stands_so items e) (stands_besides items e g broken)
+  least = keeps_alike (λ f. StandsInSome items (parts_of e) f ⊎ StandsAlways items (layer_of e) e.at f) (StandsIn items e) old new (stands_so items e) (stands_besides items e g broken)
       (keeps_both (StandsInSome items (parts_of e)) (StandsAlways items (layer_of e) e.at) old mid new parts node);
 }
 
@@ -116,7 +118,7 @@ walked_without items e g old mid new broken parts node = record {
 pub one_walked : (items : List Declaration) (e p : Term) → parts_of e ≡ p ∷ [] → (old new : Option Fault) → KeepsLeast (StandsIn items p) old new → KeepsLeast (StandsInSome items (parts_of e)) old new
 one_walked items e p is old new k =
     subst (λ xs. KeepsLeast (StandsInSome items xs) old new) (sym is)
-    (keeps_same (StandsIn items p) (StandsInSome items (p ∷ [])) old new (λ f h. (p, contains_first p [], h)) (λ f h. subst (λ x. StandsIn items x f) (contains_one p h.0 h.1) h.2) k)
+    (keeps_alike (StandsIn items p) (StandsInSome items (p ∷ [])) old new (λ f h. (p, contains_first p [], h)) (λ f h. subst (λ x. StandsIn items x f) (contains_one p h.0 h.1) h.2) k)
 
 pub one_has : (items : List Declaration) (e p : Term) (s : TermSort) → parts_of e ≡ p ∷ [] → HasSort items p s → HaveSorts items (parts_of e) (s ∷ [])
 one_has items e p s is (ts, have, gives) = more (parts_of e) (s ∷ []) p [] s [] ts is refl have gives (none [] [] refl refl)
@@ -144,7 +146,7 @@ out_of_more items es e f (x, c, h) = elim (contains_either es (e ∷ []) x c) [
 
 keeps_more : (items : List Declaration) (es : List Term) (e : Term) (old mid new : Option Fault) → KeepsLeast (StandsInSome items es) old mid → KeepsLeast (StandsIn items e) mid new → KeepsLeast (StandsInSome items (es ++ e ∷ [])) old new
 keeps_more items es e old mid new p q =
-    keeps_same (λ f. StandsInSome items es f ⊎ StandsIn items e f) (StandsInSome items (es ++ e ∷ [])) old new (in_more items es e) (out_of_more items es e) (keeps_both (StandsInSome items es) (StandsIn items e) old mid new p q)
+    keeps_alike (λ f. StandsInSome items es f ⊎ StandsIn items e f) (StandsInSome items (es ++ e ∷ [])) old new (in_more items es e) (out_of_more items es e) (keeps_both (StandsInSome items es) (StandsIn items e) old mid new p q)
 
 sorted_more : (items : List Declaration) (es : List Term) (e : Term) (whole : Bool) (ss : List TermSort) (s : TermSort) → SortsOrFault items es (cond whole (Some ss) None) → HasSort items e s → SortsOrFault items (es ++ e ∷ []) (cond whole (Some (ss ++ s ∷ [])) None)
 sorted_more items es e true ss s have h = have_next items es ss have e s h
@@ -186,7 +188,7 @@ all_end items es i whole ss broken end old new walked =
     subst (λ o. AreWalked items es o old new) (ap (λ b. cond b (Some ss) None) broken) (subst (λ xs. AreWalked items xs (cond whole (Some ss) None) old new) (take_all i es end) walked)
 
 pub all_none : (items : List Declaration) (old : Option Fault) → AreWalked items [] (Some []) old old
-all_none items old = record { sorted = none [] [] refl refl; least = keeps_none (StandsInSome items []) old old (none_in_none items [] refl) refl }
+all_none items old = record { sorted = none [] [] refl refl; least = keeps_nothing (StandsInSome items []) old (none_in_none items [] refl) }
 
 -- the terms of a list as far as the next
 pub next_of : (xs : List Term) (i : ℕ) (x : Term) → i < length xs → x ≡ get_or xs i x → take (i + 1) xs ≡ take i xs ++ x ∷ []
@@ -272,7 +274,7 @@ walked_no_apply items e op args ps is given found is_found old mid parts =
     let whole : parts_of e ≡ ps = ap parts_in out in
     let fault : SortsOrFault items ps None = subst (λ o. SortsOrFault items ps o) is_found parts.sorted in
     walked_without items e fault.0 old mid mid (subst (λ xs. StandsInSome items xs fault.0) (sym whole) fault.1) (subst (λ xs. KeepsLeast (StandsInSome items xs) old mid) (sym whole) parts.least)
-    (subst (λ l. KeepsLeast (StandsAlways items l e.at) mid mid) (sym out) (keeps_none (StandsAlways items (layer.Apply op ps) e.at) mid mid (λ f h. h) refl))
+    (subst (λ l. KeepsLeast (StandsAlways items l e.at) mid mid) (sym out) (keeps_nothing (StandsAlways items (layer.Apply op ps) e.at) mid (λ f h. h)))
 
 -- what the condition on the sorts of a term says of its node and of its parts
 pub sound_all : (items : List Declaration) (e : Term) (x : SortExpr) → e.node ≡ nodes.All x → HasSoundSorts items e → HasSoundSort items (layer.All x)

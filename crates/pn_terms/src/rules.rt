@@ -47,7 +47,8 @@ fn takes(op: Op, count: usize) -> bool
     }
 }
 
-/// The same, where there are as many arguments as the operator takes.
+/// The sort that an operator gives for arguments of these sorts, where they suit it and are as many
+/// as it takes.
 fn suited(
     alloc: Global,
     decls: &Decls,
