@@ -12,7 +12,7 @@ use Rattle.pn_values.specs.declared.value.Value.TheVariants as values
 use Rattle.pn_values.specs.declared.value.Value.TheViews.{out-Value}
 use Rattle.pn_carriers.specs.Carriers.{is_finite_layer, is_finite, width_of, constants, count_between, numbers_between, choices, carrier_layer, carrier}
 use Rattle.pn_carriers.specs.Members.{is_dot, is_truth, is_constant, is_between, pass_each, is_tuple_of, is_member_layer, is_member}
-use Rattle.pn_tree.proofs.TreeLemmas.{and_left, and_right, and_both}
+use Rattle.pn_facts.proofs.Truths.{and_left, and_right, and_both}
 use Rattle.pn_carriers.proofs.NumberLemmas.{within, far, between, same_step}
 use Rattle.pn_carriers.proofs.PlaceLemmas.{mapped, map_place, range_place, range_at}
 use Rattle.pn_carriers.proofs.ChoiceLemmas.{choice_place, split_choice}

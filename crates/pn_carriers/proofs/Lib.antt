@@ -3,7 +3,6 @@ pub mod PlaceLemmas
 pub mod ChoiceLemmas
 pub mod SizeLemmas
 pub mod LayerLemmas
-pub mod TextLemmas
 pub mod MemberLemmas
 pub mod ValueLemmas
 pub mod CarrierLemmas

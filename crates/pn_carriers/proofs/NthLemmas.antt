@@ -5,12 +5,12 @@ use Rattle.std.proofs.lemmas.Int.{ints}
 use Rattle.std.proofs.lemmas.List.{reverse-append}
 use Rattle.std.proofs.Math.Arith.{mod-mul}
 use Rattle.std.proofs.Math.Nat.{div-div-eq-div-mul, div-le_self, div-eq_of_lt, mod-eq_of_lt}
-use Rattle.pn_tree.proofs.TreeLemmas.{list_all_get}
+use Rattle.pn_facts.proofs.Lists.{list_all_get}
 use Rattle.pn_values.specs.declared.sort.Sort.{Sort}
 use Rattle.pn_values.specs.declared.value.Value.{Value}
 use Rattle.pn_carriers.specs.Carriers.{is_finite, count_between, choices, carrier}
 use Rattle.pn_carriers.proofs.NumberLemmas.{by_le, between}
-use Rattle.pn_carriers.proofs.PlaceLemmas.{drop_next}
+use Rattle.pn_facts.proofs.Lists.{drop_next}
 use Rattle.pn_carriers.proofs.ChoiceLemmas.{length_choices, choice_place}
 
 first_factor : (a b : ℕ) → 0 < a * b → 0 < a

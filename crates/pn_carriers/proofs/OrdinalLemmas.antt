@@ -5,12 +5,12 @@ use Rattle.std.proofs.lemmas.Bool.{false≢true}
 use Rattle.std.proofs.lemmas.List.{length-map, drop_all}
 use Rattle.std.proofs.lemmas.Option.{slice_get_within}
 use Rattle.std.proofs.Math.Nat.{mul-le-mul_right, le-mul_of_pos_right}
-use Rattle.pn_tree.proofs.TreeLemmas.{and_left, and_right}
+use Rattle.pn_facts.proofs.Truths.{and_left, and_right}
 use Rattle.pn_values.specs.declared.sort.Sort.{Sort}
 use Rattle.pn_values.specs.declared.value.Value.{Value}
 use Rattle.pn_carriers.specs.Carriers.{is_finite, choices, carrier}
 use Rattle.pn_carriers.specs.Members.{pass_each, is_member}
-use Rattle.pn_carriers.proofs.PlaceLemmas.{drop_next}
+use Rattle.pn_facts.proofs.Lists.{drop_next}
 use Rattle.pn_carriers.proofs.ChoiceLemmas.{length_choices, choice_place}
 use Rattle.pn_carriers.proofs.CarrierLemmas.{agrees}
 

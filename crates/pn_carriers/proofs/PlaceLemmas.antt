@@ -4,6 +4,7 @@ use Rattle.std.specs.List.{slice_get, range_with_len}
 use Rattle.std.specs.Option.{option_map}
 use Rattle.std.proofs.lemmas.List.FromFn.{length-range_with_len}
 use Rattle.std.proofs.lemmas.Option.{slice_get-map, slice_get_within}
+use Rattle.pn_facts.proofs.Lists.{drop_next}
 
 pub get_left : {X : Type 0} (xs ys : List X) (k : ℕ) (x : X) → slice_get xs k ≡ Some x → slice_get (xs ++ ys) k ≡ Some x
 get_left [] ys k x h = absurd cc
@@ -13,10 +14,6 @@ get_left (y ∷ xs) ys (suc k) x h = get_left xs ys k x h
 pub get_right : {X : Type 0} (xs ys : List X) (k : ℕ) → slice_get (xs ++ ys) (length xs + k) ≡ slice_get ys k
 get_right [] ys k = ap (slice_get ys) (omega arith)
 get_right (x ∷ xs) ys k = let next : suc (length xs) + k ≡ suc (length xs + k) = omega arith in ap (slice_get (x ∷ (xs ++ ys))) next ∙ get_right xs ys k
-
--- what is left of a list, with its first item
-pub drop_next : {X : Type 0} (xs : List X) (i : ℕ) (x : X) → i < length xs → x ≡ get_or xs i x → drop i xs ≡ x ∷ drop (i + 1) xs
-drop_next xs i x lt is = let next : i + 1 ≡ suc i = omega arith in drop-cons xs i x lt ∙ ap (λ y. y ∷ drop (suc i) xs) (sym is) ∙ ap (λ n. x ∷ drop n xs) (sym next)
 
 pub get_left_back : {X : Type 0} (xs ys : List X) (k : ℕ) → k < length xs → slice_get (xs ++ ys) k ≡ slice_get xs k
 get_left_back [] ys k h = absurd (omega arith)

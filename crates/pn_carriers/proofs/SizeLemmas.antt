@@ -10,7 +10,7 @@ use Rattle.pn_values.specs.declared.value.Value.TheVariants as values
 use Rattle.pn_carriers.specs.Carriers.{is_finite, constants, count_between, numbers_between, choices, carrier}
 use Rattle.pn_carriers.specs.Sizes.{size_of, size_of_product, capped_size}
 use Rattle.pn_carriers.proofs.NumberLemmas.{by_le}
-use Rattle.pn_carriers.proofs.PlaceLemmas.{drop_next}
+use Rattle.pn_facts.proofs.Lists.{drop_next}
 use Rattle.pn_carriers.proofs.ChoiceLemmas.{length_choices}
 use Rattle.pn_carriers.proofs.LayerLemmas.{carrier-product, finite-product}
 

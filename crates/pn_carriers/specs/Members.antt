@@ -1,7 +1,7 @@
 -- Which values are of a sort, of the infinite sorts too (ISO/IEC 15909-2, sorts of symmetric nets and of high-level nets).
 use Rattle.std.specs.Prelude.{◌≡◌, ℕ, ◌-◌, ◌^◌, Bool, true, false, ◌&&◌, List, [], ◌∷◌, ℤ, pos, negsuc, int_le, nat_lt}
 use Rattle.std.specs.List.{list_all}
-use Rattle.pn_tree.specs.Characters.{is_text}
+use Rattle.pn_text.specs.Characters.{is_text}
 use Rattle.pn_values.specs.declared.sort.Sort.{Sort}
 use Rattle.pn_values.specs.declared.sort.Sort.TheOpen as sort_layer
 use Rattle.pn_values.specs.declared.sort.Sort.TheFolds.{fold-Sort}

@@ -1,6 +1,6 @@
 ghost use Rattle.std.specs.Prelude.{◌≡◌, ℕ, List, map};
 ghost use Rattle.std.specs.List.{list_all};
-ghost use Rattle.pn_tree.specs.Characters.{is_character, is_text};
+ghost use Rattle.pn_text.specs.Characters.{is_character, is_text};
 ghost use Rattle.pn_values.specs.declared.value.Value.TheViews.{out-Value};
 ghost use Rattle.pn_carriers.specs.Members.{is_dot, is_truth, is_constant, is_between, is_document_text, is_tuple_of, is_list_of, pass_each, is_member};
 

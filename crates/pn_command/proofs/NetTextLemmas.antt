@@ -4,7 +4,7 @@ use Rattle.std.proofs.lemmas.Fmt.{decimal_nonempty}
 use Rattle.std.specs.List.{filter, list_all, AllByRecursion}
 use Rattle.std.specs.Str.{bytes_eq}
 use Rattle.pn_tree.specs.Canonical.{canonical_text}
-use Rattle.pn_tree.specs.Characters.{is_name, is_text}
+use Rattle.pn_text.specs.Characters.{is_name, is_text}
 use Rattle.pn_tree.specs.Elements.{IsTree, are_apart, are_attrs, begins_with_text, is_element, is_kid, is_kid_layer, is_kid_text}
 use Rattle.pn_tree.specs.declared.element.Attr.{Attr}
 use Rattle.pn_tree.specs.declared.element.Element.{Element}
@@ -15,7 +15,8 @@ use Rattle.pn_tree.specs.declared.element.Child.TheVariants.{rolls-Element, roll
 use Rattle.pn_tree.specs.declared.element.Child.TheFolds.{fold-roll-Child}
 use Rattle.pn_tree.specs.declared.element.Child.TheViews.{out-Child, roll-Child, roll-out-Child}
 use Rattle.pn_tree.proofs.ElementLemmas.{is_kid-element, is_kid-text, is_text_kid-element, is_text_kid-text}
-use Rattle.pn_tree.proofs.TreeLemmas.{and_both, and_left, and_right, is_element_more, not_element-zero, of_parts, parts_of}
+use Rattle.pn_tree.proofs.TreeLemmas.{is_element_more, not_element-zero, of_parts, parts_of}
+use Rattle.pn_facts.proofs.Truths.{and_both, and_left, and_right}
 use Rattle.pn_markup.specs.Offsets.{at_zero, kid_without_offsets, without_offsets}
 use Rattle.pn_markup.proofs.DocumentLemmas.{canonical_spells}
 use Rattle.pn_markup.proofs.OffsetLemmas.{kid_without-element, without_offsets_is}

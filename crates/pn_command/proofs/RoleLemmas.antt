@@ -12,6 +12,8 @@ use Rattle.pn_command.specs.declared.plain.net.Role.{Role}
 use Rattle.pn_command.specs.Index.{entry_name}
 use Rattle.pn_command.specs.Links.{role_in, AreDistinct, NotesAll, names_of, joins, IsLinked}
 use Rattle.pn_command.specs.Plain.{PlainNet}
+use Rattle.pn_facts.proofs.Options.{none_from, none_unless_some, not_none, cond_none}
+use Rattle.pn_facts.proofs.Bytes.{equal_bytes, bytes_differ}
 
 abbrev Names : Type 0
 Names = List (List ℕ × Role)
@@ -21,34 +23,12 @@ pub role_of_entries : (entries : List (String Global × Role)) (id : List ℕ) �
 role_of_entries [] id = refl
 role_of_entries (e ∷ entries) id = ap (λ r. cond (bytes_eq id (string_bytes e.0)) (Some e.1) r) (role_of_entries entries id)
 
-pub none_from : {A : Type 0} (o : Option A) → is_none o ≡ true → o ≡ None
-none_from None h = refl
-none_from (Some x) h = cc
-
-pub none_unless_some : {A : Type 0} (o : Option A) → is_some o ≡ false → o ≡ None
-none_unless_some None h = refl
-none_unless_some (Some x) h = cc
-
-equal_bytes : (xs : List ℕ) → bytes_eq xs xs ≡ true
-equal_bytes xs = (bytes_eq-Decides xs xs).1 refl
-
-cond_none : {A : Type 0} (b : Bool) (x : A) (o : Option A) → cond b (Some x) o ≡ None → (b ≡ false) × (o ≡ None)
-cond_none true x o e = cc
-cond_none false x o e = (refl, e)
-
 -- a name that is none of these and not the last is not there
 role_in-last : (ns : Names) (n : List ℕ × Role) (id : List ℕ) → role_in ns id ≡ None → bytes_eq id n.0 ≡ false → role_in (ns ++ n ∷ []) id ≡ None
 role_in-last [] n id none differ = rw differ refl
 role_in-last (m ∷ ns) n id none differ =
     let parts = cond_none (bytes_eq id m.0) m.1 (role_in ns id) none in
     ap (λ t. cond t (Some m.1) (role_in (ns ++ n ∷ []) id)) parts.0 ∙ role_in-last ns n id parts.1 differ
-
-bytes_differ : (xs ys : List ℕ) → bytes_eq xs ys ≡ false → bytes_eq ys xs ≡ false
-bytes_differ xs ys e = by (bytes_eq ys xs) refl
-  where
-    by : (b : Bool) → bytes_eq ys xs ≡ b → b ≡ false
-    by true h = let yes = (bytes_eq-Decides xs ys).1 (sym ((bytes_eq-Decides ys xs).0 h)) in cc
-    by false h = refl
 
 -- names that are distinct stay so with one that is new
 pub distinct_last : (ns : Names) (n : List ℕ × Role) → AreDistinct ns → role_in ns n.0 ≡ None → AreDistinct (ns ++ n ∷ [])
@@ -72,10 +52,6 @@ distinct_clash (m ∷ ns) n more there d = step (bytes_eq n.0 m.0) refl (λ h. d
         let same = (bytes_eq-Decides n.0 m.0).0 e in
         role_in-there ns n more (subst (λ (v : List ℕ). role_in (ns ++ n ∷ more) v ≡ None) (sym same) d.0)
     step false e later = later (λ h. there (ap (λ t. cond t (Some m.1) (role_in ns n.0)) e ∙ h))
-
-pub not_none : {A : Type 0} (o : Option A) → is_none o ≡ false → o ≢ None
-not_none None h e = cc
-not_none (Some x) h e = cc
 
 module _ {A : Type 0} (name : A → List ℕ × Role) (old : Names) (items : List A) (i : ℕ) (d : A) (lt : i < length items) where
   -- one more item noted

@@ -9,11 +9,11 @@ use Rattle.std.proofs.Math.Seq.{take-suc}
 use Rattle.std.specs.List.{list_all, flat_map}
 use Rattle.std.specs.Str.{bytes_eq}
 use Rattle.pn_tree.specs.Building.{Building, innermost, begun, at_innermost, with_text, with_kid, ended}
-use Rattle.pn_tree.specs.Characters.{is_character, characters_of, utf8_of, is_text}
+use Rattle.pn_text.specs.Characters.{is_character, characters_of, utf8_of, is_text}
 use Rattle.pn_tree.specs.declared.element.Element.{Element}
 use Rattle.pn_tree.specs.declared.element.Child.{Child}
 use Rattle.pn_tree.specs.declared.element.Child.TheVariants as children
-use Rattle.pn_tree.proofs.TextLemmas.{is_text-append}
+use Rattle.pn_text.proofs.TextLemmas.{is_text-append}
 use Rattle.pn_command.specs.Building.{IsOpen, with_kids}
 use Rattle.pn_command.specs.NetTree.{made, number_tree}
 use Rattle.pn_command.specs.Plain.{is_id_byte, IsId}

@@ -1,8 +1,7 @@
-//! The kinds of nets, and what may be wrong with a document: its faults, and which of them comes first.
+//! What may be wrong with a document: its faults, and which of them comes first.
 #![tactic(auto)]
 
 mod fault;
-mod kind;
 pub mod laws;
 mod least;
 mod reason;
@@ -10,6 +9,5 @@ mod reason;
 mod tests;
 
 pub use fault::{Fault, Refusal};
-pub use kind::Kind;
 pub use least::{keep_least, keep_least_at, keep_least_of};
 pub use reason::Reason;

@@ -4,8 +4,8 @@ use Rattle.std.specs.List.{list_all}
 use Rattle.std.proofs.lemmas.Bool.{false≢true, eq-eqb}
 use Rattle.std.proofs.lemmas.Bool.Decides.{nat_tests}
 use Rattle.std.proofs.lemmas.List.{append_cancel_left}
-use Rattle.pn_tree.specs.Characters.{is_name_start, is_name_part, are_name}
-use Rattle.pn_tree.proofs.TreeLemmas.{and_left, and_right, and_both}
+use Rattle.pn_text.specs.Characters.{is_name_start, is_name_part, are_name}
+use Rattle.pn_facts.proofs.Truths.{and_left, and_right, and_both}
 use Rattle.pn_markup.specs.Bytes.{is_space, begins_with, lacks}
 use Rattle.pn_markup.specs.Misc.{Comment, is_instruction, PI}
 

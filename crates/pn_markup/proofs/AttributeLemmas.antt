@@ -6,11 +6,11 @@ use Rattle.std.proofs.lemmas.Bool.{false≢true}
 use Rattle.std.proofs.lemmas.List.Folds.{list_all-append}
 use Rattle.std.proofs.lemmas.Slice.Eq.{bytes_eq-Decides}
 use Rattle.pn_tree.specs.Canonical.{value_escape, escaped_value, attr_text}
-use Rattle.pn_tree.specs.Characters.{is_text, is_name}
+use Rattle.pn_text.specs.Characters.{is_text, is_name}
 use Rattle.pn_tree.specs.Elements.{attr_value, are_attrs}
 use Rattle.pn_tree.specs.declared.element.Attr.{Attr}
 use Rattle.pn_tree.specs.declared.element.Element.{Element}
-use Rattle.pn_tree.proofs.TreeLemmas.{and_left, and_right, and_both}
+use Rattle.pn_facts.proofs.Truths.{and_left, and_right, and_both}
 use Rattle.pn_markup.specs.Bytes.{spaced}
 use Rattle.pn_markup.specs.Tags.{is_value_byte, ValueText, run, reference, Attribute, Attributes, none, more, Tag}
 use Rattle.pn_markup.proofs.NameLemmas.{name_is}

@@ -6,8 +6,8 @@ use Rattle.std.proofs.lemmas.Bool.Decides.{nat_tests}
 use Rattle.std.proofs.lemmas.Slice.Eq.{bytes_eq-Decides}
 use Rattle.std.proofs.lemmas.Str.{chars_from_encodes}
 use lib.Utf8.{scalar, scalars, encode}
-use Rattle.pn_tree.specs.Characters.{is_character, characters_of, further, utf8_of, is_text}
-use Rattle.pn_tree.proofs.TreeLemmas.{and_left, and_right, and_both}
+use Rattle.pn_text.specs.Characters.{is_character, characters_of, further, utf8_of, is_text}
+use Rattle.pn_facts.proofs.Truths.{and_left, and_right, and_both}
 
 -- a byte past ASCII
 abbrev pub is_past : ℕ → Bool

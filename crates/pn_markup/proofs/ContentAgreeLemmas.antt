@@ -4,7 +4,7 @@ use Rattle.std.proofs.lemmas.Bool.{false≢true, eqb-true}
 use Rattle.std.proofs.lemmas.Bool.Decides.{nat_tests}
 use Rattle.std.proofs.lemmas.List.{append_cancel_left}
 use Rattle.pn_tree.specs.Building.{with_text, with_kid}
-use Rattle.pn_tree.specs.Characters.{is_name_start}
+use Rattle.pn_text.specs.Characters.{is_name_start}
 use Rattle.pn_tree.specs.declared.element.Element.{Element}
 use Rattle.pn_tree.specs.declared.element.Child.TheVariants as children
 use Rattle.pn_markup.specs.Bytes.{is_space, line_ends}

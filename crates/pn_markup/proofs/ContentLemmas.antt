@@ -15,7 +15,8 @@ use Rattle.pn_tree.specs.declared.element.Child.TheVariants.{rolls-Element, roll
 use Rattle.pn_tree.specs.declared.element.Child.TheViews.{out-Child, roll-Child, roll-out-Child}
 use Rattle.pn_tree.proofs.ElementLemmas.{is_kid-element, is_kid-text, is_text_kid-text, child_text-element, child_text-text}
 use Rattle.pn_tree.proofs.PutLemmas.{empty_pieces, full_pieces}
-use Rattle.pn_tree.proofs.TreeLemmas.{and_left, and_right, and_both, Parts, parts_of, not_element-zero}
+use Rattle.pn_tree.proofs.TreeLemmas.{Parts, parts_of, not_element-zero}
+use Rattle.pn_facts.proofs.Truths.{and_left, and_right, and_both}
 use Rattle.pn_markup.specs.Bytes.{line_ends}
 use Rattle.pn_markup.specs.Content.{reference, nothing, piece, element, Content, empty, whole, Spells}
 use Rattle.pn_markup.specs.Offsets.{without_offsets, kid_without_offsets}

@@ -8,9 +8,10 @@ use Rattle.std.proofs.lemmas.Bool.Decides.{nat_tests}
 use Rattle.std.proofs.lemmas.List.{append_cancel_left}
 use Rattle.std.proofs.lemmas.List.Folds.{list_all-append}
 use Rattle.std.proofs.lemmas.Slice.Eq.{bytes_eq-Decides}
-use Rattle.pn_tree.specs.Characters.{is_within, is_name_part}
+use Rattle.pn_text.specs.Characters.{is_within, is_name_part}
 use Rattle.pn_tree.specs.declared.element.Element.{Element}
-use Rattle.pn_tree.proofs.TreeLemmas.{and_left, and_right, and_both, list_all_each}
+use Rattle.pn_facts.proofs.Lists.{list_all_each}
+use Rattle.pn_facts.proofs.Truths.{and_left, and_right, and_both}
 use Rattle.pn_markup.specs.Bytes.{is_space, is_quote, MaybeSpace, Space}
 use Rattle.pn_markup.specs.Content.{ElementOver, empty, whole, Spells}
 use Rattle.pn_markup.specs.Declaration.{Declared, are_digits, is_version, is_encoding, is_standalone, Maybe, XMLDecl}

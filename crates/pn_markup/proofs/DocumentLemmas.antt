@@ -3,7 +3,7 @@ use Rattle.std.proofs.Common.{[], ◌++◌, codes, length, refl}
 use Rattle.pn_tree.specs.Canonical.{element_text, canonical_text}
 use Rattle.pn_tree.specs.Elements.{IsTree}
 use Rattle.pn_tree.specs.declared.element.Element.{Element}
-use Rattle.pn_tree.proofs.TextLemmas.{is_text-append}
+use Rattle.pn_text.proofs.TextLemmas.{is_text-append}
 use Rattle.pn_markup.specs.Declaration.{Declared, is_version, is_encoding, XMLDecl}
 use Rattle.pn_markup.specs.Document.{Prolog}
 use Rattle.pn_markup.specs.Misc.{Misc, nothing, space}

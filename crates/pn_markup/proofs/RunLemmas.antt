@@ -3,9 +3,10 @@ use Rattle.std.proofs.Common.{◌≡◌, ℕ, Bool, true, false, cond, ◌==◌,
 use Rattle.std.specs.List.{list_all}
 use Rattle.std.proofs.lemmas.Bool.{eqb-true}
 use Rattle.std.proofs.lemmas.Bool.Decides.{nat_tests}
-use Rattle.pn_tree.specs.Characters.{is_within}
+use Rattle.pn_text.specs.Characters.{is_within}
 use Rattle.pn_tree.specs.Canonical.{text_escape, value_escape}
-use Rattle.pn_tree.proofs.TreeLemmas.{and_left, and_right, and_both, list_all_each}
+use Rattle.pn_facts.proofs.Lists.{list_all_each}
+use Rattle.pn_facts.proofs.Truths.{and_left, and_right, and_both}
 use Rattle.pn_markup.specs.Bytes.{is_space, begins_with, lacks, line_ends, spaced, spaced_behind, line_ends_behind}
 use Rattle.pn_markup.specs.Content.{is_run_byte, CharData}
 use Rattle.pn_markup.specs.References.{Reference, entity, decimal, amp, lt, gt, quot}

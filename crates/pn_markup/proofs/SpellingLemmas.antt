@@ -1,7 +1,7 @@
 -- The tree of a document is a tree.
 use Rattle.std.proofs.Common.{◌≡◌, ℕ, zero, suc, true, List, [], ◌∷◌, ◌++◌, codes, length, sym, ap, ◌∙◌, subst, append_assoc, arith}
 use Rattle.pn_tree.specs.Building.{with_text, with_kid}
-use Rattle.pn_tree.specs.Characters.{is_text}
+use Rattle.pn_text.specs.Characters.{is_text}
 use Rattle.pn_tree.specs.Elements.{is_element, IsTree}
 use Rattle.pn_tree.specs.declared.element.Element.{Element}
 use Rattle.pn_tree.specs.declared.element.Child.TheVariants as children

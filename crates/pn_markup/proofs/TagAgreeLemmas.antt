@@ -5,9 +5,10 @@ use Rattle.std.proofs.lemmas.Bool.{false≢true, eqb-true}
 use Rattle.std.proofs.lemmas.Bool.Decides.{nat_tests}
 use Rattle.std.proofs.lemmas.List.{append_cancel_left}
 use Rattle.pn_tree.specs.Building.{with_attr}
-use Rattle.pn_tree.specs.Characters.{utf8_of, is_name_start, is_name_part, are_name}
+use Rattle.pn_text.specs.Characters.{utf8_of, is_name_start, is_name_part, are_name}
 use Rattle.pn_tree.specs.declared.element.Element.{Element}
-use Rattle.pn_tree.proofs.TreeLemmas.{and_left, and_both, list_all_each}
+use Rattle.pn_facts.proofs.Lists.{list_all_each}
+use Rattle.pn_facts.proofs.Truths.{and_left, and_both}
 use Rattle.pn_markup.specs.Bytes.{is_space, is_quote, MaybeSpace, Space, spaced}
 use Rattle.pn_markup.specs.References.{Entity, lt, gt, amp, apos, quot, entity_name, entity_text, is_digit, number_behind, Reference, entity, decimal, hexadecimal}
 use Rattle.pn_markup.specs.Tags.{is_value_byte, ValueText, run, reference, AttValue, Eq, Attribute, Attributes, none, more, named, Tag}

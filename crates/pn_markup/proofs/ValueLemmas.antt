@@ -1,10 +1,10 @@
 -- The names and values of attributes in a document are names and texts.
 use Rattle.std.proofs.Common.{◌≡◌, ℕ, true, List, [], ◌∷◌, ◌++◌, refl, sym, ap, ◌∙◌, subst, append_assoc, arith}
 use Rattle.pn_tree.specs.Building.{with_attr}
-use Rattle.pn_tree.specs.Characters.{is_text, is_name}
+use Rattle.pn_text.specs.Characters.{is_text, is_name}
 use Rattle.pn_tree.specs.declared.element.Element.{Element}
 use Rattle.pn_tree.proofs.OpenLemmas.{begun_parts, attr_parts}
-use Rattle.pn_tree.proofs.TextLemmas.{is_text-append}
+use Rattle.pn_text.proofs.TextLemmas.{is_text-append}
 use Rattle.pn_tree.proofs.TreeLemmas.{Parts}
 use Rattle.pn_markup.specs.Bytes.{MaybeSpace, spaced}
 use Rattle.pn_markup.specs.Tags.{ValueText, run, reference, Eq, Attribute, Attributes, none, more, named, Tag}

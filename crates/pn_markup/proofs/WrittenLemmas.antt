@@ -4,14 +4,16 @@ use Rattle.std.specs.List.{list_all, flat_map}
 use Rattle.std.proofs.lemmas.Bool.Decides.{nat_tests}
 use Rattle.std.proofs.lemmas.Grind.{flat_map-append}
 use Rattle.pn_tree.specs.Canonical.{text_escape, value_escape, escaped_text, escaped_value, attr_text, content_text, element_text, child_text}
-use Rattle.pn_tree.specs.Characters.{is_character, utf8_of, is_text, is_name}
+use Rattle.pn_text.specs.Characters.{is_character, utf8_of, is_text, is_name}
 use Rattle.pn_tree.specs.Elements.{are_attrs, is_kid, is_kid_text, is_element}
 use Rattle.pn_tree.specs.declared.element.Attr.{Attr}
 use Rattle.pn_tree.specs.declared.element.Element.{Element}
 use Rattle.pn_tree.specs.declared.element.Child.{Child}
 use Rattle.pn_tree.proofs.ElementLemmas.{is_kid-element, is_kid-text, element_text_is, child_text-element, child_text-text}
-use Rattle.pn_tree.proofs.TextLemmas.{is_text-append, is_text-ascii, flat_map_same}
-use Rattle.pn_tree.proofs.TreeLemmas.{and_left, and_right, and_both, parts_of, not_element-zero}
+use Rattle.pn_text.proofs.TextLemmas.{is_text-append, is_text-ascii}
+use Rattle.pn_facts.proofs.Lists.{flat_map_same}
+use Rattle.pn_tree.proofs.TreeLemmas.{parts_of, not_element-zero}
+use Rattle.pn_facts.proofs.Truths.{and_left, and_right, and_both}
 use Rattle.pn_markup.proofs.AttributeLemmas.{attr_parts_of}
 use Rattle.pn_markup.proofs.CharacterLemmas.{is_past, Encoded, ascii, past, encoded, text_characters, is_text-character}
 use Rattle.pn_markup.proofs.ContentLemmas.{KidIs, an_element, a_text, kid_is}

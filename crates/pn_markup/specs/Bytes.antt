@@ -1,7 +1,7 @@
 -- White space, names, and texts up to a mark: XML 1.0, sections 2.2, 2.3 and 2.11. A document is a text in UTF-8, so a byte past 127 is a part of a character past ASCII.
 use Rattle.std.specs.Prelude.{◌≡◌, ℕ, Bool, true, false, ◌==◌, ◌&&◌, ◌||◌, not, List, [], ◌∷◌, if◌then◌else◌}
 use Rattle.std.specs.List.{list_all}
-use Rattle.pn_tree.specs.Characters.{are_name}
+use Rattle.pn_text.specs.Characters.{are_name}
 
 -- white space: space, tab, LF, CR
 abbrev pub is_space : ℕ → Bool

@@ -3,7 +3,7 @@ use Rattle.std.specs.Prelude.{◌≡◌, ℕ, Bool, true, false, ◌||◌, ◌&&
 use Rattle.std.specs.List.{list_all}
 use Rattle.std.specs.Char.{to_ascii_lowercase}
 use Rattle.std.specs.Str.{bytes_eq}
-use Rattle.pn_tree.specs.Characters.{is_within}
+use Rattle.pn_text.specs.Characters.{is_within}
 use Rattle.pn_markup.specs.Bytes.{is_quote, MaybeSpace, Space}
 use Rattle.pn_markup.specs.Tags.{Eq}
 

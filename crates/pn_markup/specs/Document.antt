@@ -1,6 +1,6 @@
 -- Documents: XML 1.0, section 2.1, in this project's profile: no document type, 256 levels at most.
 use Rattle.std.specs.Prelude.{◌≡◌, ℕ, suc, ◌<◌, ◌≤◌, true, List, [], ◌∷◌, ◌++◌, length, take}
-use Rattle.pn_tree.specs.Characters.{is_text}
+use Rattle.pn_text.specs.Characters.{is_text}
 use Rattle.pn_tree.specs.declared.element.Element.{Element}
 use Rattle.pn_markup.specs.Misc.{Misc}
 use Rattle.pn_markup.specs.Content.{Spells}

@@ -2,7 +2,7 @@
 use Rattle.std.specs.Prelude.{◌≡◌, ℕ, ◌+◌, ◌*◌, nat_lt, Bool, true, List, [], ◌∷◌, ◌++◌, codes}
 use Rattle.std.specs.List.{list_all}
 use Rattle.std.specs.Char.{digit_value}
-use Rattle.pn_tree.specs.Characters.{is_character, utf8_of}
+use Rattle.pn_text.specs.Characters.{is_character, utf8_of}
 
 -- the entities of 4.6
 pub data Entity : Type 0 where

@@ -8,10 +8,10 @@ use Rattle.std.proofs.lemmas.Int.{ints}
 use Rattle.std.proofs.lemmas.List.{length-map, get_or_past}
 use Rattle.std.proofs.lemmas.List.FromFn.{length-map-range_with_len}
 use Rattle.std.proofs.lemmas.Option.{none-some, same_Some, slice_get_within, slice_get_read, option_and_then_some}
-use Rattle.pn_values.specs.declared.declaration.Declaration.{Declaration}
-use Rattle.pn_values.specs.declared.declaration.ConstExpr.{ConstExpr}
-use Rattle.pn_values.specs.declared.declaration.ConstExpr.TheVariants as exprs
-use Rattle.pn_values.specs.declared.declaration.ConstantRef.{ConstantRef}
+use Rattle.pn_syntax.specs.declared.declaration.Declaration.{Declaration}
+use Rattle.pn_syntax.specs.declared.declaration.ConstExpr.{ConstExpr}
+use Rattle.pn_syntax.specs.declared.declaration.ConstExpr.TheVariants as exprs
+use Rattle.pn_values.specs.declared.constant_ref.ConstantRef.{ConstantRef}
 use Rattle.pn_values.specs.declared.sort.Sort.{Sort}
 use Rattle.pn_values.specs.declared.sort.Sort.TheOpen as layer
 use Rattle.pn_values.specs.declared.sort.Sort.TheVariants as sorts

@@ -8,6 +8,8 @@ use Rattle.std.proofs.lemmas.Slice.Eq.{bytes_eq-Decides}
 use Rattle.pn_names.specs.declared.Declared.{Declared}
 use Rattle.pn_names.specs.Index.{entry_name, NotesAll}
 use Rattle.pn_names.specs.Names.{named_in, AreDistinct}
+use Rattle.pn_facts.proofs.Options.{none_from, none_unless_some, not_none, cond_none}
+use Rattle.pn_facts.proofs.Bytes.{equal_bytes, bytes_differ}
 
 abbrev Names : Type 0
 Names = List (List ℕ × Declared)
@@ -17,29 +19,10 @@ pub named_of_entries : (entries : List (String Global × Declared)) (id : List �
 named_of_entries [] id = refl
 named_of_entries (e ∷ entries) id = ap (λ r. cond (bytes_eq id (string_bytes e.0)) (Some e.1) r) (named_of_entries entries id)
 
-equal_bytes : (xs : List ℕ) → bytes_eq xs xs ≡ true
-equal_bytes xs = (bytes_eq-Decides xs xs).1 refl
-
-cond_none : {A : Type 0} (b : Bool) (x : A) (o : Option A) → cond b (Some x) o ≡ None → (b ≡ false) × (o ≡ None)
-cond_none true x o e = cc
-cond_none false x o e = (refl, e)
-
 -- an id is named where it stands
 named_there : (ns : Names) (n : List ℕ × Declared) (more : Names) → named_in (ns ++ n ∷ more) n.0 ≡ None → ⊥
 named_there [] n more e = let parts = cond_none (bytes_eq n.0 n.0) n.1 (named_in more n.0) e in let yes = equal_bytes n.0 in cc
 named_there (m ∷ ns) n more e = named_there ns n more (cond_none (bytes_eq n.0 m.0) m.1 (named_in (ns ++ n ∷ more) n.0) e).1
-
-none_from : {A : Type 0} (o : Option A) → is_none o ≡ true → o ≡ None
-none_from None h = refl
-none_from (Some x) h = cc
-
-pub none_unless_some : {A : Type 0} (o : Option A) → is_some o ≡ false → o ≡ None
-none_unless_some None h = refl
-none_unless_some (Some x) h = cc
-
-not_none : {A : Type 0} (o : Option A) → is_none o ≡ false → o ≢ None
-not_none None h e = cc
-not_none (Some x) h e = cc
 
 -- an id that is none of these and not the last is not there
 named_in-last : (ns : Names) (n : List ℕ × Declared) (id : List ℕ) → named_in ns id ≡ None → bytes_eq id n.0 ≡ false → named_in (ns ++ n ∷ []) id ≡ None
@@ -47,13 +30,6 @@ named_in-last [] n id none differ = rw differ refl
 named_in-last (m ∷ ns) n id none differ =
     let parts = cond_none (bytes_eq id m.0) m.1 (named_in ns id) none in
     ap (λ t. cond t (Some m.1) (named_in (ns ++ n ∷ []) id)) parts.0 ∙ named_in-last ns n id parts.1 differ
-
-bytes_differ : (xs ys : List ℕ) → bytes_eq xs ys ≡ false → bytes_eq ys xs ≡ false
-bytes_differ xs ys e = by (bytes_eq ys xs) refl
-  where
-    by : (b : Bool) → bytes_eq ys xs ≡ b → b ≡ false
-    by true h = let yes = (bytes_eq-Decides xs ys).1 (sym ((bytes_eq-Decides ys xs).0 h)) in cc
-    by false h = refl
 
 -- distinct ids with one that is new
 distinct_last : (ns : Names) (n : List ℕ × Declared) → AreDistinct ns → named_in ns n.0 ≡ None → AreDistinct (ns ++ n ∷ [])

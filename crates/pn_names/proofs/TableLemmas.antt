@@ -11,6 +11,7 @@ use Rattle.std.proofs.lemmas.Option.{none-some, same_Some, slice_get-map, slice_
 use Rattle.pn_names.specs.Partitions.{IsOnce}
 use Rattle.pn_names.specs.Tables.{AreEachOnce, IsEntry, IsFilled, IsSpoilt}
 use Rattle.pn_names.proofs.DeclaredLemmas.{slice_get_at, slice_get_left}
+use Rattle.pn_facts.proofs.Options.{none_unless_some}
 
 pub slice_get_push : {A : Type 0} (xs : List A) (y : A) (j : ℕ) (x : A) → slice_get (xs ++ y ∷ []) j ≡ Some x → (slice_get xs j ≡ Some x) ⊎ ((j ≡ length xs) × (y ≡ x))
 slice_get_push [] y zero x h = inr (refl, same_Some y x h)
@@ -38,10 +39,6 @@ entry_kept lists listed k y (Some n) other there = (once_push listed k y other t
 
 all_some_push : (listed : List (Option ℕ)) (p : ℕ) → list_all is_some listed ≡ true → list_all is_some (listed ++ Some p ∷ []) ≡ true
 all_some_push listed p h = list_all-append is_some listed (Some p ∷ []) ∙ ap (λ b. b && true) h
-
-none_unless_some : {A : Type 0} (o : Option A) → is_some o ≡ false → o ≡ None
-none_unless_some None h = refl
-none_unless_some (Some x) h = cc
 
 -- a number that was not listed yet
 filled_push : (lists : List (List (Option ℕ))) (listed : List (Option ℕ)) (table : List (Option ℕ)) (p number : ℕ) (l : List (Option ℕ)) → slice_get lists number ≡ Some l → Contains l (Some p) → p < length table

@@ -3,14 +3,14 @@ use Rattle.std.specs.Prelude.{◌≡◌, ◌<◌, ◌^◌, ℕ, suc, List, [], �
 use Rattle.std.specs.List.{slice_get, AllByRecursion}
 use Rattle.std.specs.Option.{option_and_then}
 use Rattle.std.specs.Str.{bytes_eq}
-use Rattle.pn_values.specs.declared.declaration.Declaration.{Declaration}
-use Rattle.pn_values.specs.declared.declaration.Declaration.TheVariants as declarations
-use Rattle.pn_values.specs.declared.declaration.SortBody.{SortBody}
-use Rattle.pn_values.specs.declared.declaration.SortBody.TheVariants as bodies
-use Rattle.pn_values.specs.declared.declaration.Constant.{Constant}
-use Rattle.pn_values.specs.declared.declaration.PartElement.{PartElement}
-use Rattle.pn_values.specs.declared.declaration.ConstantRef.{ConstantRef}
-use Rattle.pn_values.specs.declared.sort_expr.SortExpr.{SortExpr}
+use Rattle.pn_syntax.specs.declared.declaration.Declaration.{Declaration}
+use Rattle.pn_syntax.specs.declared.declaration.Declaration.TheVariants as declarations
+use Rattle.pn_syntax.specs.declared.declaration.SortBody.{SortBody}
+use Rattle.pn_syntax.specs.declared.declaration.SortBody.TheVariants as bodies
+use Rattle.pn_syntax.specs.declared.declaration.Constant.{Constant}
+use Rattle.pn_syntax.specs.declared.declaration.PartElement.{PartElement}
+use Rattle.pn_values.specs.declared.constant_ref.ConstantRef.{ConstantRef}
+use Rattle.pn_syntax.specs.declared.sort_expr.SortExpr.{SortExpr}
 use Rattle.pn_names.specs.declared.Declared.{Declared}
 use Rattle.pn_names.specs.declared.Declared.TheVariants as declared
 

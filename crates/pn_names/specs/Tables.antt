@@ -3,10 +3,10 @@ use Rattle.std.specs.Prelude.{◌≡◌, ◌<◌, ℕ, ℤ, ◌-ℤ◌, nat_abs,
 use Rattle.std.specs.List.{list_all, slice_get, Contains}
 use Rattle.std.specs.Option.{option_and_then}
 use Rattle.std.specs.Ordering.{int_eq}
-use Rattle.pn_values.specs.declared.declaration.ConstExpr.{ConstExpr}
-use Rattle.pn_values.specs.declared.declaration.ConstExpr.TheVariants as exprs
-use Rattle.pn_values.specs.declared.declaration.ConstantRef.{ConstantRef}
-use Rattle.pn_values.specs.declared.declaration.PartElement.{PartElement}
+use Rattle.pn_syntax.specs.declared.declaration.ConstExpr.{ConstExpr}
+use Rattle.pn_syntax.specs.declared.declaration.ConstExpr.TheVariants as exprs
+use Rattle.pn_values.specs.declared.constant_ref.ConstantRef.{ConstantRef}
+use Rattle.pn_syntax.specs.declared.declaration.PartElement.{PartElement}
 use Rattle.pn_values.specs.declared.sort.Sort.{Sort}
 use Rattle.pn_values.specs.declared.sort.Sort.TheOpen as layer
 use Rattle.pn_values.specs.declared.sort.Sort.TheViews.{out-Sort}

@@ -4,7 +4,8 @@ ghost use Rattle.std.specs.Prelude.{◌≡◌, ◌<◌, ◌^◌, length, IfOk, I
 ghost use Rattle.std.specs.Option.{option_map};
 ghost use Rattle.pn_names.specs.Names.{id_of, constant_ids, id_of_constant, widths_of, variables_of, variable_name, variable_places_of, IsConstant, AreNumbered};
 
-use pn_values::{ConstantRef, Declaration, SortBody};
+use pn_syntax::{Declaration, SortBody};
+use pn_values::ConstantRef;
 use std::alloc::{AllocError, Global};
 
 /// The id of a declaration.

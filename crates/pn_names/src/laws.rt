@@ -2,7 +2,7 @@
 
 ghost use Rattle.std.specs.Prelude.{◌≡◌, ℕ, List, Some, length, slice_get};
 ghost use Rattle.std.specs.Option.{option_and_then};
-ghost use Rattle.pn_values.specs.declared.declaration.Declaration.{Declaration};
+ghost use Rattle.pn_syntax.specs.declared.declaration.Declaration.{Declaration};
 ghost use Rattle.pn_names.specs.declared.Declared.{Declared};
 ghost use Rattle.pn_names.specs.Names.{names_of, meaning_of, AreDistinct, variables_of, variable_at, variable_places_of, Declares};
 

@@ -9,7 +9,8 @@ ghost use Rattle.pn_names.specs.Names.{constant_id, element_id, constant_ids, nu
 use crate::Declared;
 use crate::items::id_of;
 use indexmap::IndexMap;
-use pn_values::{Constant, ConstantRef, Declaration, PartElement, SortBody};
+use pn_syntax::{Constant, Declaration, PartElement, SortBody};
+use pn_values::ConstantRef;
 use std::alloc::{AllocError, Global};
 use std::marker::Model;
 

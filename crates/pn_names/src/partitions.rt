@@ -2,7 +2,7 @@
 
 ghost use Rattle.std.specs.Prelude.{◌≡◌, ◌↔◌, ◌<◌, ◌≤◌, ◌-◌, ◌^◌, ◌++◌, [], List, ℕ, nat_le, Option, map, length, IfOk, IfSome, IfNone, IsSome, IsTrue, MatchOption, Some, None, true, false, is_some, slice_get, slice_index_or, Contains, sum};
 ghost use Rattle.std.specs.List.{flat_map};
-ghost use Rattle.pn_values.specs.declared.declaration.ConstExpr.{ConstExpr};
+ghost use Rattle.pn_syntax.specs.declared.declaration.ConstExpr.{ConstExpr};
 ghost use Rattle.pn_carriers.specs.Carriers.{carrier, count_between};
 ghost use Rattle.pn_names.specs.Names.{names_of, widths_of};
 ghost use Rattle.pn_names.specs.Partitions.{is_splittable, Splits, IsPartTable};
@@ -10,7 +10,8 @@ ghost use Rattle.pn_names.specs.Tables.{enumeration_place, range_place, place_of
 
 use crate::Index;
 use crate::items::constant_count;
-use pn_values::{ConstExpr, Declaration, PartElement, Sort};
+use pn_syntax::{ConstExpr, Declaration, PartElement};
+use pn_values::Sort;
 use std::alloc::{AllocError, Global};
 
 /// The most values that a range may have to be split.

@@ -7,10 +7,9 @@ use crate::{
     Declared, Index, are_distinct, are_numbered, constant_count, constant_id, declaration_id,
     part_table, variable_id, variable_places, widths,
 };
+use pn_syntax::{ConstExpr, Constant, Declaration, PartElement, SortBody, SortExpr, SortNode};
 use pn_text::Text;
-use pn_values::{
-    ConstExpr, Constant, ConstantRef, Declaration, PartElement, Sort, SortBody, SortExpr, SortNode,
-};
+use pn_values::{ConstantRef, Sort};
 use sqlite_items::Items;
 use std::alloc::{AllocError, Global};
 use std::process::Abort;

@@ -4,8 +4,8 @@ use Rattle.std.proofs.lemmas.Option.{same_Some}
 use Rattle.std.proofs.lemmas.Slice.Eq.{bytes_eq-Decides}
 use Rattle.std.specs.List.{AllByRecursion}
 use Rattle.std.specs.Str.{bytes_eq}
-use Rattle.pn_faults.specs.declared.kind.Kind.{Kind}
-use Rattle.pn_faults.specs.declared.kind.Kind.TheVariants as kind
+use Rattle.pn_operators.specs.declared.kind.Kind.{Kind}
+use Rattle.pn_operators.specs.declared.kind.Kind.TheVariants as kind
 use Rattle.pn_operators.specs.declared.op.Op.{Op}
 use Rattle.pn_operators.specs.declared.op.Op.TheVariants as op
 use Rattle.pn_operators.specs.declared.row.OpRow.{OpRow}

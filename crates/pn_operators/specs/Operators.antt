@@ -1,8 +1,8 @@
 -- The operators of terms: the name of each one's element, the first kind of nets that has it, and how many arguments it
 -- takes (ISO/IEC 15909-2, terms of symmetric nets).
 use Rattle.std.specs.Prelude.{IsTrue, ℕ, List, codes, Bool, true, false, Option, None, Some}
-use Rattle.pn_faults.specs.declared.kind.Kind.{Kind}
-use Rattle.pn_faults.specs.declared.kind.Kind.TheVariants as kind
+use Rattle.pn_operators.specs.declared.kind.Kind.{Kind}
+use Rattle.pn_operators.specs.declared.kind.Kind.TheVariants as kind
 use Rattle.pn_operators.specs.declared.op.Op.{Op}
 use Rattle.pn_operators.specs.declared.op.Op.TheVariants as op
 

@@ -2,7 +2,7 @@
 use Rattle.std.specs.Prelude.{◌≡◌, ℕ, List, [], ◌∷◌, map, Bool, ◌&&◌, Option, None, Some, if◌then◌else◌}
 use Rattle.std.specs.List.{AllByRecursion}
 use Rattle.std.specs.Str.{bytes_eq}
-use Rattle.pn_faults.specs.declared.kind.Kind.{Kind}
+use Rattle.pn_operators.specs.declared.kind.Kind.{Kind}
 use Rattle.pn_operators.specs.declared.op.Op.{Op}
 use Rattle.pn_operators.specs.declared.op.Op.TheVariants as op
 use Rattle.pn_operators.specs.declared.row.OpRow.{OpRow}

@@ -1,7 +1,8 @@
-//! The operators of terms, and the one table of their names and of the numbers of their arguments
+//! The kinds of nets, the operators of terms, and the one table of their names and of the numbers of their arguments
 //! (ISO/IEC 15909-2, terms of symmetric nets).
 #![tactic(auto)]
 
+mod kind;
 pub mod laws;
 mod op;
 mod row;
@@ -11,6 +12,7 @@ mod table;
 #[cfg(test)]
 mod tests;
 
+pub use kind::Kind;
 pub use op::Op;
 pub use row::OpRow;
 pub use table::{OP_TABLE, find_op, op_name, row_of};

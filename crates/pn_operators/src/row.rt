@@ -1,5 +1,4 @@
-use crate::Op;
-use pn_faults::Kind;
+use crate::{Kind, Op};
 
 /// A row of the table of operators.
 #[derive(Clone, Copy, Debug)]

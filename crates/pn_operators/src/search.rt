@@ -3,8 +3,7 @@ ghost use Rattle.pn_operators.specs.Operators.{name_of, is_taken, IsTaken};
 ghost use Rattle.pn_operators.specs.Rows.{found_in, IsTable};
 ghost use Rattle.pn_operators.specs.declared.op.Op.{Op};
 
-use crate::{Op, OpRow};
-use pn_faults::Kind;
+use crate::{Kind, Op, OpRow};
 
 /// The operator of the table whose element has this name, where nets of this kind have it. Takes
 /// no memory.

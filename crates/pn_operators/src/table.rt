@@ -4,8 +4,7 @@ ghost use Rattle.pn_operators.specs.Rows.{TellsOf};
 ghost use Rattle.pn_operators.specs.declared.op.Op.{Op};
 
 use crate::search::find_in;
-use crate::{Op, OpRow, with_rows};
-use pn_faults::Kind;
+use crate::{Kind, Op, OpRow, with_rows};
 
 macro_rules! as_table {
     (; $($op:ident $name:literal $from:ident $least:literal $most:tt $rule:ident),*) => {

@@ -1,7 +1,6 @@
 //! What no clause says: the table as the documents of nets write it.
 
-use crate::{OP_TABLE, Op, find_op, laws, op_name, row_of};
-use pn_faults::Kind;
+use crate::{Kind, OP_TABLE, Op, find_op, laws, op_name, row_of};
 use std::process::Abort;
 use std::test::Fail;
 

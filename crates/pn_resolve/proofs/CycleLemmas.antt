@@ -5,7 +5,7 @@ use Rattle.std.proofs.lemmas.Bool.Decides.{nat_tests}
 use Rattle.std.proofs.lemmas.Bool.{cases_lt}
 use Rattle.std.proofs.lemmas.List.{get_or_append_left}
 use Rattle.std.proofs.Math.Seq.{get_or-append_seam}
-use Rattle.pn_values.specs.declared.declaration.Declaration.{Declaration}
+use Rattle.pn_syntax.specs.declared.declaration.Declaration.{Declaration}
 use Rattle.pn_resolve.specs.Links.{TellsCyclesOf}
 use Rattle.pn_resolve.specs.declared.links.Sources.TheVariants as source
 use Rattle.pn_resolve.specs.Standing.{LeadsTo, is_named}

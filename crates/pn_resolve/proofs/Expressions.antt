@@ -2,13 +2,13 @@
 use Rattle.std.proofs.Common.{◌≡◌, ◌⊎◌, inl, inr, ℕ, ℤ, List, [], ◌∷◌, map, Option, refl, sym, ap, ◌∙◌, subst}
 use Rattle.std.specs.List.{Contains}
 use Rattle.pn_values.specs.declared.sort.Sort.{Sort}
-use Rattle.pn_values.specs.declared.sort_expr.SortExpr.{SortExpr}
-use Rattle.pn_values.specs.declared.sort_expr.SortNode.{SortNode, map-SortNode}
-use Rattle.pn_values.specs.declared.sort_expr.SortNode.TheOpen as layer
-use Rattle.pn_values.specs.declared.sort_expr.SortNode.TheVariants as nodes
-use Rattle.pn_values.specs.declared.sort_expr.SortNode.TheVariants.{rolls-Product, rolls-User, rolls-List, rolls-Range}
-use Rattle.pn_values.specs.declared.sort_expr.SortNode.TheViews.{out-SortNode, roll-SortNode, out-roll-SortNode, roll-out-SortNode}
-use Rattle.pn_values.specs.declared.sort_expr.SortNode.TheFolds.{fold-SortNode, fold_out-SortExpr, fold_out-SortNode, ind-SortExpr}
+use Rattle.pn_syntax.specs.declared.sort_expr.SortExpr.{SortExpr}
+use Rattle.pn_syntax.specs.declared.sort_expr.SortNode.{SortNode, map-SortNode}
+use Rattle.pn_syntax.specs.declared.sort_expr.SortNode.TheOpen as layer
+use Rattle.pn_syntax.specs.declared.sort_expr.SortNode.TheVariants as nodes
+use Rattle.pn_syntax.specs.declared.sort_expr.SortNode.TheVariants.{rolls-Product, rolls-User, rolls-List, rolls-Range}
+use Rattle.pn_syntax.specs.declared.sort_expr.SortNode.TheViews.{out-SortNode, roll-SortNode, out-roll-SortNode, roll-out-SortNode}
+use Rattle.pn_syntax.specs.declared.sort_expr.SortNode.TheFolds.{fold-SortNode, fold_out-SortExpr, fold_out-SortNode, ind-SortExpr}
 use Rattle.pn_resolve.specs.declared.extent.Extent.{Extent}
 use Rattle.pn_resolve.specs.Meaning.{node_sort, sort_with}
 use Rattle.pn_resolve.specs.Telling.{Told, told_node, told}

@@ -13,9 +13,9 @@ use Rattle.pn_values.specs.declared.sort.Sort.TheVariants as sorts
 use Rattle.pn_values.specs.declared.sort.Sort.TheVariants.{rolls-Dot, rolls-Bool, rolls-Range, rolls-Product, rolls-Integer, rolls-Natural, rolls-Positive, rolls-Text, rolls-List, rolls-Enumeration, rolls-Partition}
 use Rattle.pn_values.specs.declared.sort.Sort.TheViews.{roll-Sort}
 use Rattle.pn_values.specs.declared.sort.Sort.TheFolds.{fold-roll-Sort}
-use Rattle.pn_values.specs.declared.sort_expr.SortExpr.{SortExpr}
-use Rattle.pn_values.specs.declared.sort_expr.SortNode.TheOpen as layer
-use Rattle.pn_values.specs.declared.sort_expr.SortNode.TheViews.{out-SortNode}
+use Rattle.pn_syntax.specs.declared.sort_expr.SortExpr.{SortExpr}
+use Rattle.pn_syntax.specs.declared.sort_expr.SortNode.TheOpen as layer
+use Rattle.pn_syntax.specs.declared.sort_expr.SortNode.TheViews.{out-SortNode}
 use Rattle.pn_resolve.specs.declared.TheConstants.{MAX_DEPTH, MAX_NODES}
 use Rattle.pn_resolve.specs.declared.extent.Extent.{Extent}
 use Rattle.pn_resolve.specs.declared.extent.Extent.TheVariants.{NoSort, TooBig, Fits}

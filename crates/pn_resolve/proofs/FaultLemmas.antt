@@ -4,13 +4,13 @@ use Rattle.std.specs.List.{Contains, flat_map}
 use Rattle.pn_faults.specs.declared.fault.Fault.{Fault}
 use Rattle.pn_faults.specs.Order.{fault_at}
 use Rattle.pn_faults.specs.declared.reason.Reason.TheVariants as reasons
-use Rattle.pn_values.specs.declared.declaration.Declaration.{Declaration}
-use Rattle.pn_values.specs.declared.sort_expr.SortExpr.{SortExpr}
-use Rattle.pn_values.specs.declared.sort_expr.SortNode.{SortNode, map-SortNode}
-use Rattle.pn_values.specs.declared.sort_expr.SortNode.TheOpen as layer
-use Rattle.pn_values.specs.declared.sort_expr.SortNode.TheVariants as nodes
-use Rattle.pn_values.specs.declared.sort_expr.SortNode.TheViews.{out-SortNode}
-use Rattle.pn_values.specs.declared.sort_expr.SortNode.TheFolds.{fold-SortNode}
+use Rattle.pn_syntax.specs.declared.declaration.Declaration.{Declaration}
+use Rattle.pn_syntax.specs.declared.sort_expr.SortExpr.{SortExpr}
+use Rattle.pn_syntax.specs.declared.sort_expr.SortNode.{SortNode, map-SortNode}
+use Rattle.pn_syntax.specs.declared.sort_expr.SortNode.TheOpen as layer
+use Rattle.pn_syntax.specs.declared.sort_expr.SortNode.TheVariants as nodes
+use Rattle.pn_syntax.specs.declared.sort_expr.SortNode.TheViews.{out-SortNode}
+use Rattle.pn_syntax.specs.declared.sort_expr.SortNode.TheFolds.{fold-SortNode}
 use Rattle.pn_names.specs.Names.{sort_named}
 use Rattle.pn_resolve.specs.declared.extent.Extent.{Extent}
 use Rattle.pn_resolve.specs.declared.extent.Extent.TheVariants.{NoSort, TooBig, Fits}

@@ -9,10 +9,11 @@ use Rattle.pn_faults.proofs.LeastLemmas.{lower-assoc, lower-none, least_fault-ap
 use Rattle.pn_resolve.specs.declared.extent.Extent.{Extent}
 use Rattle.pn_resolve.specs.Extents.{beside, all_beside}
 use Rattle.pn_resolve.specs.Telling.{Told, told_extent, told_faults, told_parts, told_around, told_big, told}
-use Rattle.pn_values.specs.declared.sort_expr.SortExpr.{SortExpr}
-use Rattle.pn_values.specs.declared.sort_expr.SortNode.TheVariants as nodes
-use Rattle.pn_values.specs.declared.sort_expr.SortNode.TheOpen as layer
+use Rattle.pn_syntax.specs.declared.sort_expr.SortExpr.{SortExpr}
+use Rattle.pn_syntax.specs.declared.sort_expr.SortNode.TheVariants as nodes
+use Rattle.pn_syntax.specs.declared.sort_expr.SortNode.TheOpen as layer
 use Rattle.pn_resolve.proofs.Expressions.{told_at, out_product, out_list}
+use Rattle.pn_facts.proofs.Lists.{drop_next}
 
 pub kept_nothing : (a : Option Fault) → a ≡ lower a (least_fault [])
 kept_nothing a = sym (lower-none a)
@@ -39,10 +40,6 @@ kept_item faults_of xs i x a b c lt is first second =
     let all : flat_map faults_of (take (i + 1) xs) ≡ flat_map faults_of (take i xs) ++ faults_of x =
     ap (flat_map faults_of) next ∙ flat_map-append faults_of (take i xs) (x ∷ []) ∙ ap (λ l. flat_map faults_of (take i xs) ++ l) (append-nil (faults_of x)) in
     kept_both a b c (flat_map faults_of (take i xs)) (faults_of x) first second ∙ ap (λ l. lower a (least_fault l)) (sym all)
-
--- what is left of a list, with its first item
-pub drop_next : {X : Type 0} (xs : List X) (i : ℕ) (x : X) → i < length xs → x ≡ get_or xs i x → drop i xs ≡ x ∷ drop (i + 1) xs
-drop_next xs i x lt is = let next : i + 1 ≡ suc i = omega arith in drop-cons xs i x lt ∙ ap (λ y. y ∷ drop (suc i) xs) (sym is) ∙ ap (λ n. x ∷ drop n xs) (sym next)
 
 -- the extent of one more expression
 pub beside_next : (tell : SortExpr → Told) (xs : List SortExpr) (i : ℕ) (x : SortExpr) (total all : Extent) → i < length xs → x ≡ get_or xs i x

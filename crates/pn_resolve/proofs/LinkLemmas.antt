@@ -3,13 +3,13 @@ use Rattle.std.proofs.Common.{◌≡◌, ◌⊎◌, inl, inr, ℕ, zero, suc, �
 use Rattle.std.specs.List.{Contains, flat_map, slice_get}
 use Rattle.std.specs.Option.{option_to_list}
 use Rattle.std.proofs.lemmas.Option.{slice_get_cases}
-use Rattle.pn_values.specs.declared.declaration.Declaration.{Declaration}
-use Rattle.pn_values.specs.declared.sort_expr.SortExpr.{SortExpr}
-use Rattle.pn_values.specs.declared.sort_expr.SortNode.{SortNode, map-SortNode}
-use Rattle.pn_values.specs.declared.sort_expr.SortNode.TheOpen as layer
-use Rattle.pn_values.specs.declared.sort_expr.SortNode.TheVariants as nodes
-use Rattle.pn_values.specs.declared.sort_expr.SortNode.TheViews.{out-SortNode}
-use Rattle.pn_values.specs.declared.sort_expr.SortNode.TheFolds.{fold-SortNode, fold_out-SortExpr, fold_out-SortNode}
+use Rattle.pn_syntax.specs.declared.declaration.Declaration.{Declaration}
+use Rattle.pn_syntax.specs.declared.sort_expr.SortExpr.{SortExpr}
+use Rattle.pn_syntax.specs.declared.sort_expr.SortNode.{SortNode, map-SortNode}
+use Rattle.pn_syntax.specs.declared.sort_expr.SortNode.TheOpen as layer
+use Rattle.pn_syntax.specs.declared.sort_expr.SortNode.TheVariants as nodes
+use Rattle.pn_syntax.specs.declared.sort_expr.SortNode.TheViews.{out-SortNode}
+use Rattle.pn_syntax.specs.declared.sort_expr.SortNode.TheFolds.{fold-SortNode, fold_out-SortExpr, fold_out-SortNode}
 use Rattle.pn_cycles.specs.Graphs.{IsEdge, Leads, by_edge, by_path, IsWhole}
 use Rattle.pn_names.specs.Names.{names_of}
 use Rattle.pn_resolve.specs.Links.{places_in, places_of, place_by, places_of_some, leads_from, row_of, IsGraph}

@@ -8,10 +8,10 @@ use Rattle.pn_faults.specs.Order.{fault_at}
 use Rattle.pn_faults.specs.Least.{least_fault, lower}
 use Rattle.pn_faults.specs.Standing.{IsLeastOf}
 use Rattle.pn_faults.specs.declared.reason.Reason.TheVariants as reasons
-use Rattle.pn_values.specs.declared.declaration.Declaration.{Declaration}
-use Rattle.pn_values.specs.declared.declaration.ConstExpr.{ConstExpr}
-use Rattle.pn_values.specs.declared.declaration.ConstExpr.TheVariants as exprs
-use Rattle.pn_values.specs.declared.sort_expr.SortExpr.{SortExpr}
+use Rattle.pn_syntax.specs.declared.declaration.Declaration.{Declaration}
+use Rattle.pn_syntax.specs.declared.declaration.ConstExpr.{ConstExpr}
+use Rattle.pn_syntax.specs.declared.declaration.ConstExpr.TheVariants as exprs
+use Rattle.pn_syntax.specs.declared.sort_expr.SortExpr.{SortExpr}
 use Rattle.pn_names.specs.Names.{id_of, at_of}
 use Rattle.pn_resolve.specs.declared.extent.Extent.{Extent}
 use Rattle.pn_resolve.specs.Listing.{cycle_faults, expr_faults, sort_faults, value_faults, element_faults, range_faults, faults_of}

@@ -2,14 +2,14 @@
 use Rattle.std.proofs.Common.{◌≡◌, ◌⊎◌, inl, inr, ℕ, zero, suc, ◌+◌, ◌<◌, ◌≤◌, true, List, [], ◌∷◌, map, Option, Some, None, refl, sym, ap, ◌∙◌, subst, arith}
 use Rattle.std.specs.List.{Contains, slice_get}
 use Rattle.std.specs.Option.{option_map, option_and_then}
-use Rattle.pn_values.specs.declared.declaration.Declaration.{Declaration}
-use Rattle.pn_values.specs.declared.declaration.Declaration.TheVariants as declarations
-use Rattle.pn_values.specs.declared.declaration.SortBody.TheVariants as bodies
+use Rattle.pn_syntax.specs.declared.declaration.Declaration.{Declaration}
+use Rattle.pn_syntax.specs.declared.declaration.Declaration.TheVariants as declarations
+use Rattle.pn_syntax.specs.declared.declaration.SortBody.TheVariants as bodies
 use Rattle.pn_values.specs.declared.sort.Sort.{Sort}
 use Rattle.pn_values.specs.declared.sort.Sort.TheVariants as sorts
-use Rattle.pn_values.specs.declared.sort_expr.SortExpr.{SortExpr}
-use Rattle.pn_values.specs.declared.sort_expr.SortNode.TheOpen as layer
-use Rattle.pn_values.specs.declared.sort_expr.SortNode.TheViews.{out-SortNode}
+use Rattle.pn_syntax.specs.declared.sort_expr.SortExpr.{SortExpr}
+use Rattle.pn_syntax.specs.declared.sort_expr.SortNode.TheOpen as layer
+use Rattle.pn_syntax.specs.declared.sort_expr.SortNode.TheViews.{out-SortNode}
 use Rattle.pn_names.specs.Names.{sort_named}
 use Rattle.pn_resolve.specs.Meaning.{all_sorts, sort_with, declared_sort, meaning, sort_at_place, Resolves}
 use Rattle.pn_resolve.specs.Standing.{IsPart, itself, product, list, Names, LeadsTo, directly, through, IsNamed, is_named, expr_of}

@@ -3,8 +3,8 @@ use Rattle.std.proofs.Common.{◌≡◌, ◌⊎◌, inl, inr, ℕ, suc, ◌+◌,
 use Rattle.std.specs.List.{slice_get}
 use Rattle.std.proofs.lemmas.Option.{slice_get_within}
 use Rattle.std.specs.Str.{bytes_eq}
-use Rattle.pn_values.specs.declared.declaration.Declaration.{Declaration}
-use Rattle.pn_values.specs.declared.declaration.Declaration.TheVariants as declarations
+use Rattle.pn_syntax.specs.declared.declaration.Declaration.{Declaration}
+use Rattle.pn_syntax.specs.declared.declaration.Declaration.TheVariants as declarations
 use Rattle.pn_names.specs.declared.Declared.{Declared}
 use Rattle.pn_names.specs.declared.Declared.TheVariants as declared
 use Rattle.pn_names.specs.Names.{id_of, constant_ids, numbered, own_name, with_variable, names_in, names_from, names_of, named_in, sort_place, sort_named}

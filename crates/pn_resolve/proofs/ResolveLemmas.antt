@@ -7,9 +7,9 @@ use Rattle.pn_faults.specs.Order.{fault_at}
 use Rattle.pn_faults.specs.Least.{least_fault, lower}
 use Rattle.pn_faults.specs.Standing.{IsLeastOf}
 use Rattle.pn_faults.specs.declared.reason.Reason.TheVariants as reasons
-use Rattle.pn_values.specs.declared.declaration.Declaration.{Declaration}
+use Rattle.pn_syntax.specs.declared.declaration.Declaration.{Declaration}
 use Rattle.pn_values.specs.declared.sort.Sort.{Sort}
-use Rattle.pn_values.specs.declared.sort_expr.SortExpr.{SortExpr}
+use Rattle.pn_syntax.specs.declared.sort_expr.SortExpr.{SortExpr}
 use Rattle.pn_names.specs.declared.Declared.{Declared}
 use Rattle.pn_names.specs.Names.{names_of, sort_named}
 use Rattle.pn_resolve.specs.declared.extent.Extent.{Extent}

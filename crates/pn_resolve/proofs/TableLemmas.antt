@@ -5,13 +5,13 @@ use Rattle.std.specs.Option.{option_and_then, option_map}
 use Rattle.std.proofs.lemmas.Bool.{cases_eq, cases_lt}
 use Rattle.std.proofs.lemmas.List.{get_or-set_same, get_or-set_other, length-set}
 use Rattle.std.proofs.lemmas.Option.{slice_get_cases, slice_get_within}
-use Rattle.pn_values.specs.declared.declaration.Declaration.{Declaration}
-use Rattle.pn_values.specs.declared.declaration.Declaration.TheVariants as declarations
-use Rattle.pn_values.specs.declared.declaration.SortBody.TheVariants as bodies
+use Rattle.pn_syntax.specs.declared.declaration.Declaration.{Declaration}
+use Rattle.pn_syntax.specs.declared.declaration.Declaration.TheVariants as declarations
+use Rattle.pn_syntax.specs.declared.declaration.SortBody.TheVariants as bodies
 use Rattle.pn_values.specs.declared.sort.Sort.{Sort}
 use Rattle.pn_values.specs.declared.sort.Sort.TheVariants as sorts
-use Rattle.pn_values.specs.declared.sort_expr.SortExpr.{SortExpr}
-use Rattle.pn_values.specs.declared.sort_expr.SortNode.TheVariants as written
+use Rattle.pn_syntax.specs.declared.sort_expr.SortExpr.{SortExpr}
+use Rattle.pn_syntax.specs.declared.sort_expr.SortNode.TheVariants as written
 use Rattle.pn_cycles.specs.Graphs.{IsEdge, Leads, by_path}
 use Rattle.pn_cycles.specs.Orders.{ListsEachOnce, StandsBefore, StandBehindTargets, TellsCycles}
 use Rattle.pn_names.specs.Names.{names_of, sort_named}

@@ -7,12 +7,12 @@ use Rattle.std.proofs.lemmas.Option.{slice_get_cases, slice_get_within}
 use Rattle.pn_faults.specs.declared.fault.Fault.{Fault}
 use Rattle.pn_faults.specs.Order.{fault_at}
 use Rattle.pn_faults.specs.declared.reason.Reason.TheVariants as reasons
-use Rattle.pn_values.specs.declared.declaration.Declaration.{Declaration}
-use Rattle.pn_values.specs.declared.declaration.Declaration.TheVariants as declarations
-use Rattle.pn_values.specs.declared.declaration.SortBody.TheVariants as bodies
+use Rattle.pn_syntax.specs.declared.declaration.Declaration.{Declaration}
+use Rattle.pn_syntax.specs.declared.declaration.Declaration.TheVariants as declarations
+use Rattle.pn_syntax.specs.declared.declaration.SortBody.TheVariants as bodies
 use Rattle.pn_values.specs.declared.sort.Sort.{Sort}
-use Rattle.pn_values.specs.declared.sort_expr.SortExpr.{SortExpr}
-use Rattle.pn_values.specs.declared.sort_expr.SortNode.TheVariants as written
+use Rattle.pn_syntax.specs.declared.sort_expr.SortExpr.{SortExpr}
+use Rattle.pn_syntax.specs.declared.sort_expr.SortNode.TheVariants as written
 use Rattle.pn_cycles.specs.Graphs.{Leads}
 use Rattle.pn_cycles.specs.Orders.{ListsEachOnce, StandBehindTargets, TellsCycles}
 use Rattle.pn_names.specs.declared.Declared.{Declared}

@@ -4,17 +4,17 @@ use Rattle.std.specs.List.{slice_get, Contains}
 use Rattle.pn_faults.specs.declared.fault.Fault.{Fault}
 use Rattle.pn_faults.specs.Order.{fault_at}
 use Rattle.pn_faults.specs.declared.reason.Reason.TheVariants as reasons
-use Rattle.pn_values.specs.declared.declaration.Declaration.{Declaration}
-use Rattle.pn_values.specs.declared.declaration.Declaration.TheVariants as declarations
-use Rattle.pn_values.specs.declared.declaration.ConstExpr.{ConstExpr}
-use Rattle.pn_values.specs.declared.declaration.ConstExpr.TheVariants as exprs
-use Rattle.pn_values.specs.declared.declaration.SortBody.TheVariants as bodies
-use Rattle.pn_values.specs.declared.declaration.PartElement.{PartElement}
+use Rattle.pn_syntax.specs.declared.declaration.Declaration.{Declaration}
+use Rattle.pn_syntax.specs.declared.declaration.Declaration.TheVariants as declarations
+use Rattle.pn_syntax.specs.declared.declaration.ConstExpr.{ConstExpr}
+use Rattle.pn_syntax.specs.declared.declaration.ConstExpr.TheVariants as exprs
+use Rattle.pn_syntax.specs.declared.declaration.SortBody.TheVariants as bodies
+use Rattle.pn_syntax.specs.declared.declaration.PartElement.{PartElement}
 use Rattle.pn_values.specs.declared.sort.Sort.{Sort}
-use Rattle.pn_values.specs.declared.sort_expr.SortExpr.{SortExpr}
-use Rattle.pn_values.specs.declared.sort_expr.SortNode.TheVariants as nodes
-use Rattle.pn_values.specs.declared.sort_expr.SortNode.TheOpen as layer
-use Rattle.pn_values.specs.declared.sort_expr.SortNode.TheViews.{out-SortNode}
+use Rattle.pn_syntax.specs.declared.sort_expr.SortExpr.{SortExpr}
+use Rattle.pn_syntax.specs.declared.sort_expr.SortNode.TheVariants as nodes
+use Rattle.pn_syntax.specs.declared.sort_expr.SortNode.TheOpen as layer
+use Rattle.pn_syntax.specs.declared.sort_expr.SortNode.TheViews.{out-SortNode}
 use Rattle.pn_names.specs.Names.{id_of, at_of, sort_named}
 use Rattle.pn_names.specs.Partitions.{Splits}
 use Rattle.pn_resolve.specs.Meaning.{Resolves}

@@ -6,8 +6,9 @@ ghost use Rattle.pn_resolve.specs.Tables.{kept_by, sort_in, within};
 
 use crate::Extent;
 use pn_names::Index;
+use pn_syntax::{SortExpr, SortNode};
 use pn_text::Text;
-use pn_values::{Sort, SortExpr, SortNode};
+use pn_values::Sort;
 use sqlite_items::{Boxed, Items};
 use std::alloc::{AllocError, Global};
 

@@ -10,7 +10,7 @@ ghost use Rattle.pn_resolve.specs.Standing.{LeadsTo};
 use crate::links::{Sources, graph_of, is_namedsort};
 use pn_cycles::{Order, order_of};
 use pn_names::Index;
-use pn_values::Declaration;
+use pn_syntax::Declaration;
 use std::alloc::{AllocError, Global};
 
 /// For each declaration whether its sort leads back to it, directly or through `namedsort`s. The

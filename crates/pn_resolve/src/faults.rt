@@ -15,7 +15,7 @@ use crate::walk::walk;
 use crate::{Extent, Table};
 use pn_faults::{Fault, Reason, keep_least_at};
 use pn_names::Index;
-use pn_values::{ConstExpr, Declaration, PartElement};
+use pn_syntax::{ConstExpr, Declaration, PartElement};
 use std::alloc::{AllocError, Global};
 
 /// The least of the faults of sorts in the declarations, but for partitions that do not split their

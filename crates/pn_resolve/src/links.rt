@@ -8,7 +8,7 @@ ghost use Rattle.pn_resolve.specs.Links.{places_of, place_by, leads_from, row_of
 
 use pn_cycles::Graph;
 use pn_names::Index;
-use pn_values::{Declaration, SortBody, SortExpr, SortNode};
+use pn_syntax::{Declaration, SortBody, SortExpr, SortNode};
 use std::alloc::{AllocError, Global};
 
 /// The declarations from which edges lead in a graph.

@@ -3,7 +3,7 @@
 ghost use Rattle.std.specs.Prelude.{◌≡◌, List, Some, None, Ok, Err, IfOk, OnOk, IfSome};
 ghost use Rattle.pn_faults.specs.declared.fault.Fault.{Fault};
 ghost use Rattle.pn_faults.specs.Standing.{IsLeastOf};
-ghost use Rattle.pn_values.specs.declared.declaration.Declaration.{Declaration};
+ghost use Rattle.pn_syntax.specs.declared.declaration.Declaration.{Declaration};
 ghost use Rattle.pn_values.specs.declared.sort.Sort.{Sort};
 ghost use Rattle.pn_resolve.specs.Meaning.{Resolves, HasNoSort};
 ghost use Rattle.pn_resolve.specs.Standing.{IsBig, IsTooBig, StandsIn, StandsBesides};
@@ -14,7 +14,8 @@ use crate::walk::walk;
 use crate::{Extent, Table};
 use pn_faults::Fault;
 use pn_names::Index;
-use pn_values::{Sort, SortExpr};
+use pn_syntax::SortExpr;
+use pn_values::Sort;
 use std::alloc::{AllocError, Global};
 use thiserror::Error;
 

@@ -3,7 +3,7 @@
 ghost use Rattle.std.specs.Prelude.{◌≡◌, ◌<◌, ◌^◌, ℕ, length, Some, None, IfOk, OnOk};
 ghost use Rattle.std.specs.List.{slice_get};
 ghost use Rattle.std.specs.Option.{option_copied};
-ghost use Rattle.pn_values.specs.declared.declaration.Declaration.{Declaration};
+ghost use Rattle.pn_syntax.specs.declared.declaration.Declaration.{Declaration};
 ghost use Rattle.pn_names.specs.Names.{names_of, AreNumbered};
 ghost use Rattle.pn_resolve.specs.Tables.{own_sort, own_extent, plain_expr, extents_with, sorts_with, extent_in, sort_in, IsTable};
 
@@ -13,7 +13,8 @@ use crate::links::{Sources, graph_of};
 use crate::walk::walk;
 use pn_cycles::order_of;
 use pn_names::Index;
-use pn_values::{Declaration, Sort, SortBody, SortExpr};
+use pn_syntax::{Declaration, SortBody, SortExpr};
+use pn_values::Sort;
 use std::alloc::{AllocError, Global};
 use std::marker::Model;
 

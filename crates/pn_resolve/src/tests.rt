@@ -7,10 +7,9 @@ ghost use Rattle.pn_resolve.specs.Tables.{IsTable};
 use crate::{Extent, ResolveFault, Table, least_fault_of};
 use pn_faults::{Fault, Reason};
 use pn_names::{Index, are_distinct, are_numbered};
+use pn_syntax::{ConstExpr, Constant, Declaration, PartElement, SortBody, SortExpr, SortNode};
 use pn_text::Text;
-use pn_values::{
-    ConstExpr, Constant, Declaration, PartElement, Sort, SortBody, SortExpr, SortNode,
-};
+use pn_values::Sort;
 use sqlite_items::{Boxed, Items};
 use std::alloc::{AllocError, Global};
 use std::process::Abort;

@@ -8,8 +8,8 @@ ghost use Rattle.pn_resolve.specs.Telling.{told, told_range, told_name, told_par
 use crate::Extent;
 use pn_faults::{Fault, Reason, keep_least_at};
 use pn_names::Index;
+use pn_syntax::{SortExpr, SortNode};
 use pn_text::Text;
-use pn_values::{SortExpr, SortNode};
 use std::alloc::{AllocError, Global};
 
 /// The extent of the sort that an expression has, where `extents` has those of the declarations.

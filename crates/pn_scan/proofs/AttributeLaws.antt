@@ -2,7 +2,7 @@
 use Rattle.std.proofs.Common.{◌≡◌, ℕ, true, false, cond, ◌==◌, List, [], ◌∷◌, ◌++◌, Option, Some, None, is_none, refl, sym, ap, ◌∙◌, subst, append_assoc, append-nil}
 use Rattle.std.proofs.lemmas.Bool.{false≢true, and_parts}
 use Rattle.std.specs.List.{list_all}
-use Rattle.pn_tree.specs.Characters.{is_name_part}
+use Rattle.pn_text.specs.Characters.{is_name_part}
 use Rattle.pn_tree.specs.Building.{with_attr}
 use Rattle.pn_tree.specs.Elements.{attr_value}
 use Rattle.pn_markup.specs.Bytes.{is_space, is_quote, MaybeSpace, Name}

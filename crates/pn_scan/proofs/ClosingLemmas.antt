@@ -1,10 +1,10 @@
 -- Bytes that close all that is open.
 use Rattle.std.proofs.Common.{◌≡◌, ℕ, suc, ◌-◌, ◌≤◌, Bool, true, false, List, [], ◌∷◌, ◌++◌, codes, length, refl, sym, ap, append_assoc, arith, length-append}
-use Rattle.pn_tree.specs.Characters.{is_text}
+use Rattle.pn_text.specs.Characters.{is_text}
 use Rattle.pn_tree.specs.Building.{with_text, with_kid}
 use Rattle.pn_tree.specs.declared.element.Element.{Element}
 use Rattle.pn_tree.specs.declared.element.Child.TheVariants as children
-use Rattle.pn_tree.proofs.TextLemmas.{is_text-append}
+use Rattle.pn_text.proofs.TextLemmas.{is_text-append}
 use Rattle.pn_markup.specs.Misc.{nothing}
 use Rattle.pn_markup.specs.Tags.{Tag, named, none}
 use Rattle.pn_markup.specs.Content as content

@@ -6,12 +6,12 @@ use Rattle.std.specs.Str.{bytes_eq}
 use Rattle.std.proofs.lemmas.Bool.{false≢true, and_parts, and_from, or_cases, or_left, or_right, eqb-true, cases_lt, cases_Bool, false_from_ne_true}
 use Rattle.std.proofs.lemmas.Bool.Decides.{nat_tests}
 use Rattle.std.proofs.lemmas.Slice.Eq.{bytes_eq-Decides}
-use Rattle.pn_tree.specs.Characters.{is_within, is_character, utf8_of, is_text}
+use Rattle.pn_text.specs.Characters.{is_within, is_character, utf8_of, is_text}
 use Rattle.pn_tree.specs.Building.{with_text, with_attr}
 use Rattle.pn_tree.specs.Elements.{attr_value}
 use Rattle.pn_tree.specs.declared.element.Attr.{Attr}
 use Rattle.pn_tree.specs.declared.element.Element.{Element}
-use Rattle.pn_tree.proofs.TextLemmas.{is_text-append, is_text-ascii}
+use Rattle.pn_text.proofs.TextLemmas.{is_text-append, is_text-ascii}
 use Rattle.pn_markup.specs.Bytes.{is_quote, begins_with, Name, line_ends_behind}
 use Rattle.pn_markup.specs.Misc.{nothing, is_xml}
 use Rattle.pn_markup.specs.References.{is_digit, Entity, lt, gt, amp, apos, quot, entity_text, number_behind, entity}

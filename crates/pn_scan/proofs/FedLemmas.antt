@@ -1,6 +1,6 @@
 -- What was fed, byte by byte.
 use Rattle.std.proofs.Common.{◌≡◌, ℕ, suc, true, List, [], ◌∷◌, ◌++◌, length, Some, None, refl, sym, ap, ◌∙◌, subst, append_assoc, append-nil, arith, length-append}
-use Rattle.pn_tree.specs.Characters.{is_text}
+use Rattle.pn_text.specs.Characters.{is_text}
 use Rattle.pn_tree.specs.declared.element.Element.{Element}
 use Rattle.pn_markup.specs.Misc.{nothing}
 use Rattle.pn_markup.specs.Content.{Spells}

@@ -3,7 +3,7 @@ use Rattle.std.proofs.Common.{◌≡◌, ℕ, suc, ◌+◌, ◌≤◌, ◌<◌, 
 use Rattle.std.specs.List.{list_all}
 use Rattle.std.proofs.lemmas.Bool.{false≢true, cond_both, and_parts, eqb-true, leb-true}
 use Rattle.std.proofs.lemmas.Bool.Decides.{nat_tests}
-use Rattle.pn_tree.specs.Characters.{is_name_part, is_text}
+use Rattle.pn_text.specs.Characters.{is_name_part, is_text}
 use Rattle.pn_markup.specs.Bytes.{is_quote}
 use Rattle.pn_scan.specs.State.{Place, State, at_start, outside, at_end, in_run, at_markup, at_bang, in_comment, in_target, in_instruction, in_section, in_name, in_tag, in_attribute, before_equals, behind_equals, in_value, at_reference, in_entity, at_number, in_number, due, in_end, in_declaration, before_part_equals, behind_part_equals, in_part}
 use Rattle.pn_scan.specs.Step.{step}
@@ -14,7 +14,7 @@ use Rattle.pn_scan.proofs.StepLaw.{law}
 use Rattle.pn_scan.proofs.ViableLemmas.{Keeps, keeps}
 use Rattle.pn_scan.proofs.CompletionLemmas.{Completes, completes}
 use Rattle.pn_scan.proofs.TextLemmas.{text_goes, text_comes, step_open, open_text, fill, whole_text}
-use Rattle.pn_tree.proofs.TextLemmas.{is_text-append}
+use Rattle.pn_text.proofs.TextLemmas.{is_text-append}
 
 -- states in which any byte past ASCII may come
 abbrev IsFree : State → Type 0

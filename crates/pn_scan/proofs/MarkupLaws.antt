@@ -4,7 +4,7 @@ use Rattle.std.proofs.lemmas.Bool.{false≢true, and_parts, and_from}
 use Rattle.std.proofs.lemmas.Slice.Eq.{bytes_eq-Decides}
 use Rattle.std.specs.Str.{bytes_eq}
 use Rattle.std.specs.List.{list_all}
-use Rattle.pn_tree.specs.Characters.{is_name_start, is_name_part}
+use Rattle.pn_text.specs.Characters.{is_name_start, is_name_part}
 use Rattle.pn_markup.specs.Bytes.{is_space, lacks, Name, Space, line_ends}
 use Rattle.pn_markup.specs.Misc.{is_xml, is_instruction}
 use Rattle.pn_markup.specs.Tags.{Tag, ETag, Attributes, named}

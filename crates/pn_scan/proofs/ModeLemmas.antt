@@ -5,8 +5,8 @@ use Rattle.std.specs.Str.{bytes_eq}
 use Rattle.std.proofs.lemmas.Bool.Decides.{nat_tests}
 use Rattle.std.proofs.lemmas.List.Folds.{list_all-append}
 use Rattle.std.proofs.lemmas.Slice.Eq.{bytes_eq-Decides}
-use Rattle.pn_tree.specs.Characters.{is_within, is_text, is_name, is_character, is_name_start, is_name_part, are_name, characters_of, utf8_of, further}
-use Rattle.pn_tree.proofs.TreeLemmas.{and_left, and_right, and_both}
+use Rattle.pn_text.specs.Characters.{is_within, is_text, is_name, is_character, is_name_start, is_name_part, are_name, characters_of, utf8_of, further}
+use Rattle.pn_facts.proofs.Truths.{and_left, and_right, and_both}
 use Rattle.pn_markup.specs.Bytes.{is_quote, Name}
 use Rattle.pn_scan.specs.Places.{inner_of}
 use Rattle.pn_tree.specs.declared.element.Element.{Element}

@@ -6,7 +6,7 @@ use Rattle.std.proofs.lemmas.Slice.Eq.{bytes_eq-Decides}
 use Rattle.std.specs.List.{list_all}
 use Rattle.std.specs.Char.{to_ascii_lowercase}
 use Rattle.std.specs.Str.{bytes_eq}
-use Rattle.pn_tree.specs.Characters.{is_within}
+use Rattle.pn_text.specs.Characters.{is_within}
 use Rattle.pn_markup.specs.Bytes.{is_quote, begins_with}
 use Rattle.pn_markup.specs.Declaration.{is_version, are_digits}
 use Rattle.pn_scan.specs.State.{Part, version, encoding, standalone}

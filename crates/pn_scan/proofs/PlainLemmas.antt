@@ -5,7 +5,7 @@ use Rattle.std.proofs.lemmas.List.{take-append-drop, take-take, drop-take}
 use Rattle.std.proofs.lemmas.List.Sums.{prefix_len-le-length, common_prefix_len-le}
 use Rattle.std.proofs.lemmas.Bool.{false≢true, eqb-true, and_parts, and_from}
 use Rattle.std.proofs.lemmas.Bool.Decides.{nat_tests}
-use Rattle.pn_tree.specs.Characters.{is_within, is_character, is_name_part}
+use Rattle.pn_text.specs.Characters.{is_within, is_character, is_name_part}
 use Rattle.pn_tree.specs.declared.element.Element.{Element}
 use Rattle.pn_outside.specs.declared.limits.TheConstants.{BYTES}
 use Rattle.pn_markup.specs.Bytes.{is_space}

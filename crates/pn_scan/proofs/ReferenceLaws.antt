@@ -6,7 +6,7 @@ use Rattle.std.proofs.lemmas.Slice.Eq.{bytes_eq-Decides}
 use Rattle.std.specs.List.{list_all}
 use Rattle.std.specs.Char.{digit_value}
 use Rattle.std.specs.Str.{bytes_eq}
-use Rattle.pn_tree.specs.Characters.{is_character, utf8_of}
+use Rattle.pn_text.specs.Characters.{is_character, utf8_of}
 use Rattle.pn_markup.specs.Bytes.{begins_with}
 use Rattle.pn_markup.specs.References.{Entity, lt, gt, amp, apos, quot, entity_name, entity_text, is_digit, number_behind, Number, Reference, entity, decimal, hexadecimal}
 use Rattle.pn_tree.specs.declared.element.Element.{Element}

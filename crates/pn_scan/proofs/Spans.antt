@@ -3,7 +3,7 @@ use Rattle.std.proofs.Common.{◌≡◌, ℕ, Bool, true, false, List, [], ◌�
 use Rattle.std.proofs.lemmas.Bool.{false≢true, and_parts, and_from}
 use Rattle.std.proofs.lemmas.Bool.Decides.{nat_tests}
 use Rattle.std.specs.List.{list_all}
-use Rattle.pn_tree.specs.Characters.{is_name_start, is_name_part}
+use Rattle.pn_text.specs.Characters.{is_name_start, is_name_part}
 use Rattle.pn_markup.specs.Bytes.{is_space, is_quote, MaybeSpace, Name}
 use Rattle.pn_scan.specs.Rest.{SpaceOr}
 use Rattle.pn_scan.proofs.Tools.{head_is, tail_is}

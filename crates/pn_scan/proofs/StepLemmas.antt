@@ -2,7 +2,7 @@
 use Rattle.std.specs.List.{slice_get, starts_with}
 use Rattle.std.proofs.Common.{◌≡◌, ℕ, zero, suc, ◌+◌, add-one, drop, nat_eq, ◌==◌, ◌&&◌, Bool, true, false, cond, codes, List, [], ◌∷◌, Some, None, refl, sym, ap, ◌∙◌, subst}
 use Rattle.std.specs.Char.{encode_utf8}
-use Rattle.pn_tree.specs.Characters.{utf8_of}
+use Rattle.pn_text.specs.Characters.{utf8_of}
 use Rattle.pn_markup.specs.Bytes.{is_space, begins_with}
 use Rattle.pn_scan.specs.Rest.{may_end}
 use Rattle.pn_markup.specs.Misc.{is_xml}

@@ -1,7 +1,7 @@
 -- Tags, byte by byte.
 use Rattle.std.proofs.Common.{◌≡◌, ℕ, suc, Bool, true, false, cond, not, ◌&&◌, ◌==◌, List, [], ◌∷◌, ◌++◌, codes, Some, None, refl, sym, ap, ◌∙◌, subst, append_assoc, append-nil}
 use Rattle.std.proofs.lemmas.Bool.{false≢true}
-use Rattle.pn_tree.specs.Characters.{is_name_start, is_name_part}
+use Rattle.pn_text.specs.Characters.{is_name_start, is_name_part}
 use Rattle.pn_tree.specs.Building.{with_attr}
 use Rattle.pn_tree.specs.Elements.{attr_value}
 use Rattle.pn_markup.specs.Bytes.{is_space, Name}

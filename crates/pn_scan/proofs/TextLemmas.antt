@@ -7,8 +7,8 @@ use Rattle.std.proofs.lemmas.Bool.Decides.{nat_tests}
 use Rattle.std.proofs.lemmas.Slice.Eq.{bytes_eq-Decides}
 use Rattle.std.proofs.lemmas.Str.{chars-encodes}
 use lib.Utf8.{scalar, scalars, encode}
-use Rattle.pn_tree.specs.Characters.{is_within, is_character, characters_of, utf8_of, is_text}
-use Rattle.pn_tree.proofs.TextLemmas.{is_text-append}
+use Rattle.pn_text.specs.Characters.{is_within, is_character, characters_of, utf8_of, is_text}
+use Rattle.pn_text.proofs.TextLemmas.{is_text-append}
 use Rattle.pn_scan.specs.Characters.{is_whole, is_begun, is_further, begin_three, begin_four, is_last_pair, character_behind, character_step, IsOpen, Cut}
 use Rattle.pn_scan.proofs.CharacterLemmas.{begins_three, begins_four, within_from, lt_of, whole_is, whole_bytes, whole_front, begun_front, begun_not_whole}
 

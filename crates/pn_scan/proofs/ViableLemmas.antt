@@ -5,11 +5,11 @@ use Rattle.std.specs.Char.{digit_value}
 use Rattle.std.specs.Str.{bytes_eq}
 use Rattle.std.proofs.lemmas.Bool.{false≢true, cond_both, and_parts, and_from, or_cases, eqb-true, ltb-true, leb-true}
 use Rattle.std.proofs.lemmas.Bool.Decides.{nat_tests}
-use Rattle.pn_tree.specs.Characters.{is_name_start, is_name_part, is_character, utf8_of, is_text}
+use Rattle.pn_text.specs.Characters.{is_name_start, is_name_part, is_character, utf8_of, is_text}
 use Rattle.pn_tree.specs.Building.{with_text, with_attr}
 use Rattle.pn_tree.specs.Elements.{attr_value}
 use Rattle.pn_tree.specs.declared.element.Element.{Element}
-use Rattle.pn_tree.proofs.TextLemmas.{is_text-append}
+use Rattle.pn_text.proofs.TextLemmas.{is_text-append}
 use Rattle.pn_markup.specs.Bytes.{is_space, is_quote, begins_with, Name}
 use Rattle.pn_markup.specs.Misc.{is_xml}
 use Rattle.pn_markup.specs.References.{Entity, lt, gt, amp, apos, quot, entity_text, is_digit}

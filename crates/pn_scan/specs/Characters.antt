@@ -1,6 +1,6 @@
 -- The bytes of a character in UTF-8, one after another (RFC 3629; the Unicode Standard, table 3-7), without the characters that a document may not have.
 use Rattle.std.specs.Prelude.{◌≡◌, ℕ, Bool, true, false, nat_lt, ◌==◌, ◌&&◌, ◌||◌, List, [], ◌∷◌, ◌++◌, Option, Some, None, if◌then◌else◌}
-use Rattle.pn_tree.specs.Characters.{is_within, is_character, is_text}
+use Rattle.pn_text.specs.Characters.{is_within, is_character, is_text}
 
 -- a byte behind the first of a character
 abbrev pub is_further : ℕ → Bool

@@ -1,7 +1,7 @@
 -- Which state of the machine a mode is, at a place, and at which places a mode can be.
 use Rattle.std.specs.Prelude.{◌≡◌, ◌⊎◌, ℕ, ◌<◌, ◌≤◌, List, Bool, true, false, ◌==◌, [], drop, Option, Some, None, if◌then◌else◌}
 use Rattle.pn_markup.specs.Bytes.{is_space}
-use Rattle.pn_tree.specs.Characters.{is_text, is_name}
+use Rattle.pn_text.specs.Characters.{is_text, is_name}
 use Rattle.pn_tree.specs.Elements.{attr_value}
 use Rattle.pn_scan.specs.State as m
 use Rattle.pn_scan.specs.State.{Place, State, before, behind_item}

@@ -1,7 +1,7 @@
 -- Bytes that stand for themselves where a mode is, so that many are taken at once.
 use Rattle.std.specs.Prelude.{ℕ, Bool, true, false, ◌==◌, ◌&&◌, ◌||◌, not, List, ◌++◌, nat_lt}
 use Rattle.std.specs.List.{common_prefix_len}
-use Rattle.pn_tree.specs.Characters.{is_within, is_name_part}
+use Rattle.pn_text.specs.Characters.{is_within, is_name_part}
 use Rattle.pn_markup.specs.Bytes.{is_space}
 use Rattle.pn_scan.specs.State.{State, in_run, in_section, in_name, in_attribute, in_value}
 use Rattle.pn_scan.specs.declared.mode.Brackets.{Brackets}

@@ -1,7 +1,7 @@
 -- The meaning of a state: which bytes may still come, in the words of the grammar. N is the length of the whole document.
 use Rattle.std.specs.Prelude.{◌≡◌, ◌⊎◌, ℕ, suc, ◌+◌, Bool, true, false, List, [], ◌∷◌, ◌++◌, codes, length, Some, None}
 use Rattle.std.specs.List.{list_all}
-use Rattle.pn_tree.specs.Characters.{is_character, utf8_of}
+use Rattle.pn_text.specs.Characters.{is_character, utf8_of}
 use Rattle.pn_tree.specs.Building.{with_attr, with_text, with_kid}
 use Rattle.pn_tree.specs.Elements.{attr_value}
 use Rattle.pn_tree.specs.declared.element.Element.{Element}

@@ -3,7 +3,7 @@ use Rattle.std.specs.Prelude.{ℕ, suc, ◌+◌, ◌*◌, nat_le, Bool, true, fa
 use Rattle.std.specs.List.{list_all}
 use Rattle.std.specs.Char.{to_ascii_lowercase, digit_value}
 use Rattle.std.specs.Str.{bytes_eq}
-use Rattle.pn_tree.specs.Characters.{is_within, is_name_start, is_name_part, is_character, utf8_of}
+use Rattle.pn_text.specs.Characters.{is_within, is_name_start, is_name_part, is_character, utf8_of}
 use Rattle.pn_tree.specs.Building.{with_attr, with_text}
 use Rattle.pn_tree.specs.Elements.{attr_value}
 use Rattle.pn_tree.specs.declared.element.Element.{Element}

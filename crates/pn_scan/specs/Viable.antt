@@ -1,6 +1,6 @@
 -- What holds of each state that a document's front leads to. The bytes p are those of the character that is not whole yet.
 use Rattle.std.specs.Prelude.{◌≡◌, ◌⊎◌, ℕ, suc, ◌≤◌, Bool, true, false, List, [], ◌∷◌, ◌++◌, None}
-use Rattle.pn_tree.specs.Characters.{is_text}
+use Rattle.pn_text.specs.Characters.{is_text}
 use Rattle.pn_tree.specs.Elements.{attr_value}
 use Rattle.pn_markup.specs.Bytes.{is_quote, Name}
 use Rattle.pn_tree.specs.declared.element.Element.{Element}

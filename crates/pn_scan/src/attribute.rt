@@ -2,7 +2,7 @@
 
 ghost use Rattle.std.specs.Prelude.{◌≡◌, ◌<◌, ◌++◌, true, None, OnOk, IfSome, IfOk};
 ghost use Rattle.std.specs.Option.{option_map};
-ghost use Rattle.pn_tree.specs.Characters.{is_name, is_text};
+ghost use Rattle.pn_text.specs.Characters.{is_name, is_text};
 ghost use Rattle.pn_tree.specs.Elements.{attr_value};
 ghost use Rattle.pn_scan.specs.Step.{step, step_equals, step_quote, step_value, space_text};
 ghost use Rattle.pn_scan.specs.Places.{place_of, levels_of, inner_of, outer_of, Belongs};

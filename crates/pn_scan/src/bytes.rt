@@ -1,7 +1,7 @@
 //! Kinds of bytes.
 
 ghost use Rattle.std.specs.Prelude.{◌≡◌, ◌∷◌, [], IfOk};
-ghost use Rattle.pn_tree.specs.Characters.{is_name_start, is_name_part};
+ghost use Rattle.pn_text.specs.Characters.{is_name_start, is_name_part};
 ghost use Rattle.pn_markup.specs.Bytes.{is_space, is_quote};
 
 use std::alloc::{AllocError, Global};

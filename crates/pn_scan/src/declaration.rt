@@ -6,7 +6,7 @@ ghost use Rattle.std.specs.List.{list_all};
 ghost use Rattle.std.specs.Str.{bytes_eq};
 ghost use Rattle.std.specs.Option.{option_map};
 ghost use Rattle.pn_scan.specs.State.{Place, before, before_part_equals, behind_part_equals};
-ghost use Rattle.pn_tree.specs.Characters.{is_within};
+ghost use Rattle.pn_text.specs.Characters.{is_within};
 ghost use Rattle.pn_markup.specs.Declaration.{is_version};
 ghost use Rattle.pn_scan.specs.Rest.{may_come, may_end, stage_behind, is_part_value};
 ghost use Rattle.pn_scan.specs.Step.{step, step_declaration, step_part, part_begins, is_part_front, is_version_front};

@@ -2,7 +2,7 @@
 
 ghost use Rattle.std.specs.Prelude.{◌≡◌, false, [], Some, IfSome, IfOk};
 ghost use Rattle.std.specs.Option.{option_map};
-ghost use Rattle.pn_tree.specs.Characters.{is_name_part};
+ghost use Rattle.pn_text.specs.Characters.{is_name_part};
 ghost use Rattle.pn_markup.specs.Misc.{is_xml};
 ghost use Rattle.pn_scan.specs.State.{Place, at_start};
 ghost use Rattle.pn_scan.specs.Step.{step, step_outside, step_markup, step_bang, step_comment, step_target, step_instruction, step_due};

@@ -1,7 +1,7 @@
 //! The tree as far as it was read.
 
 ghost use Rattle.std.specs.Prelude.{◌≡◌, ◌<◌, ◌≤◌, ◌+◌, ◌-◌, true, false, [], suc, length, drop, is_some, slice_get, IfSome, OnOk};
-ghost use Rattle.pn_tree.specs.Characters.{is_name, is_text};
+ghost use Rattle.pn_text.specs.Characters.{is_name, is_text};
 ghost use Rattle.pn_tree.specs.Building.{with_attr, with_text};
 ghost use Rattle.pn_tree.specs.Elements.{attr_value};
 ghost use Rattle.pn_markup.specs.Tags.{named};

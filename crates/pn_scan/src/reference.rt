@@ -3,7 +3,7 @@
 ghost use Rattle.std.specs.Prelude.{◌≡◌, ◌≤◌, ◌⊎◌, true, false, None, Some, if◌then◌else◌, string_bytes, OnOk, IfSome, IfOk, MatchOption};
 ghost use Rattle.std.specs.Char.{digit_value};
 ghost use Rattle.std.specs.Option.{option_map};
-ghost use Rattle.pn_tree.specs.Characters.{is_text, is_character, utf8_of};
+ghost use Rattle.pn_text.specs.Characters.{is_text, is_character, utf8_of};
 ghost use Rattle.pn_markup.specs.Bytes.{begins_with};
 ghost use Rattle.pn_markup.specs.References.{is_digit, entity_text};
 ghost use Rattle.pn_scan.specs.State.{behind_reference, at_reference, at_number};

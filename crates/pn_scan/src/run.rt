@@ -2,7 +2,7 @@
 
 ghost use Rattle.std.specs.Prelude.{◌≡◌, ◌<◌, ◌++◌, ◌==◌, true, OnOk, IfSome, IfOk};
 ghost use Rattle.std.specs.Option.{option_map};
-ghost use Rattle.pn_tree.specs.Characters.{is_text};
+ghost use Rattle.pn_text.specs.Characters.{is_text};
 ghost use Rattle.pn_scan.specs.State.{Place, behind_item, in_section, no_bracket};
 ghost use Rattle.pn_scan.specs.Rest.{brackets as bracket_bytes};
 ghost use Rattle.pn_scan.specs.Step.{step, step_run, step_section, bracket_in, line_text, brackets_behind, cr_behind};

@@ -2,7 +2,7 @@
 
 ghost use Rattle.std.specs.Prelude.{◌≡◌, ◌<◌, ◌+◌, ◌==◌, true, None, Some, OnOk, IfSome, IfOk, if◌then◌else◌};
 ghost use Rattle.std.specs.Option.{option_map};
-ghost use Rattle.pn_tree.specs.Characters.{is_name};
+ghost use Rattle.pn_text.specs.Characters.{is_name};
 ghost use Rattle.pn_scan.specs.Step.{step, step_tag};
 ghost use Rattle.pn_scan.specs.Places.{place_of, is_inside, levels_of, inner_of, outer_of, levels_for, outer_for, HasRoom, Belongs};
 ghost use Rattle.pn_scan.specs.State.{Place, in_name};

@@ -2,14 +2,14 @@
 use Rattle.std.proofs.Common.{◌≡◌, ◌↔◌, ◌<◌, ◌≤◌, ◌+◌, ◌⊎◌, ◌^◌, ℕ, zero, suc, Bool, true, false, IsTrue, List, [], ◌∷◌, ◌++◌, length, map, take, get_or, refl, sym, ap, ◌∙◌, subst, inl, inr, Contains, Option, Some, None, slice_get, IsSome, IfSome, arith, add-one, codes, Result, Err}
 use Rattle.std.proofs.Math.Seq.{take-suc}
 use Rattle.std.proofs.lemmas.List.Elements.{Contains-append_cases}
-use Rattle.pn_values.specs.declared.declaration.Declaration.{Declaration}
-use Rattle.pn_values.specs.declared.declaration.ConstExpr.{ConstExpr}
-use Rattle.pn_values.specs.declared.declaration.PartElement.{PartElement}
+use Rattle.pn_syntax.specs.declared.declaration.Declaration.{Declaration}
+use Rattle.pn_syntax.specs.declared.declaration.ConstExpr.{ConstExpr}
+use Rattle.pn_syntax.specs.declared.declaration.PartElement.{PartElement}
 use Rattle.pn_values.specs.declared.sort.Sort.{Sort}
 use Rattle.pn_values.specs.declared.sort.Sort.TheOpen as layer
 use Rattle.pn_values.specs.declared.sort.Sort.TheViews.{out-Sort, roll-Sort, roll-out-Sort}
 use Rattle.pn_values.specs.declared.sort.Sort.TheFolds.{fold-roll-Sort}
-use Rattle.pn_values.specs.declared.sort_expr.SortExpr.{SortExpr}
+use Rattle.pn_syntax.specs.declared.sort_expr.SortExpr.{SortExpr}
 use Rattle.pn_values.specs.Sizes.{depth_of, depth_step, nodes_of, nodes_step}
 use Rattle.pn_names.specs.Partitions.{IsPartTable, Splits, is_splittable, is_splittable_layer}
 use Rattle.pn_resolve.specs.Meaning.{Resolves}
@@ -37,7 +37,7 @@ use Rattle.pn_names.specs.declared.Declared.{Declared}
 use Rattle.pn_names.specs.Names.{AreNumbered, names_of, variable_places_of, widths_of}
 use Rattle.pn_resolve.specs.Tables.{Entries, IsTable}
 use Rattle.pn_names.proofs.DeclaredLemmas.{slice_get_at, slice_get_left}
-use Rattle.pn_values.specs.declared.declaration.Declaration.TheVariants as declarations
+use Rattle.pn_syntax.specs.declared.declaration.Declaration.TheVariants as declarations
 use Rattle.pn_resolve.specs.Standing.{IsFaultless, Stands, StandsBesides}
 use Rattle.pn_resolve.specs.Standing.Stands.{besides, bad_partition}
 use Rattle.pn_resolve.specs.Standing.StandsBesides.{constant_range}

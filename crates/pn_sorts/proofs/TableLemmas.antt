@@ -3,11 +3,11 @@ use Rattle.std.proofs.Common.{◌≡◌, ◌<◌, ◌≤◌, ◌^◌, ℕ, zero,
 use Rattle.std.specs.Option.{option_and_then}
 use Rattle.std.proofs.lemmas.Option.{slice_get_within}
 use Rattle.std.specs.List.{AllByRecursion, range_with_len}
-use Rattle.pn_values.specs.declared.declaration.Declaration.{Declaration}
-use Rattle.pn_values.specs.declared.declaration.Declaration.TheVariants as declarations
-use Rattle.pn_values.specs.declared.declaration.PartElement.{PartElement}
+use Rattle.pn_syntax.specs.declared.declaration.Declaration.{Declaration}
+use Rattle.pn_syntax.specs.declared.declaration.Declaration.TheVariants as declarations
+use Rattle.pn_syntax.specs.declared.declaration.PartElement.{PartElement}
 use Rattle.pn_values.specs.declared.sort.Sort.{Sort}
-use Rattle.pn_values.specs.declared.sort_expr.SortExpr.{SortExpr}
+use Rattle.pn_syntax.specs.declared.sort_expr.SortExpr.{SortExpr}
 use Rattle.pn_values.specs.declared.value.Value.{Value}
 use Rattle.std.proofs.Common.{leb-true}
 use Rattle.pn_values.specs.declared.sort.Sort.TheOpen as layer

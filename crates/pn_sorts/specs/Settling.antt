@@ -4,11 +4,11 @@ use Rattle.std.specs.List.{slice_get, Contains}
 use Rattle.pn_faults.specs.declared.fault.Fault.{Fault}
 use Rattle.pn_faults.specs.declared.reason.Reason.TheVariants as reasons
 use Rattle.pn_faults.specs.Order.{fault_at}
-use Rattle.pn_values.specs.declared.declaration.Declaration.{Declaration}
-use Rattle.pn_values.specs.declared.declaration.ConstExpr.{ConstExpr}
-use Rattle.pn_values.specs.declared.declaration.PartElement.{PartElement}
+use Rattle.pn_syntax.specs.declared.declaration.Declaration.{Declaration}
+use Rattle.pn_syntax.specs.declared.declaration.ConstExpr.{ConstExpr}
+use Rattle.pn_syntax.specs.declared.declaration.PartElement.{PartElement}
 use Rattle.pn_values.specs.declared.sort.Sort.{Sort}
-use Rattle.pn_values.specs.declared.sort_expr.SortExpr.{SortExpr}
+use Rattle.pn_syntax.specs.declared.sort_expr.SortExpr.{SortExpr}
 use Rattle.pn_names.specs.Names.{at_of, id_of}
 use Rattle.pn_names.specs.Partitions.{IsPartTable, Splits}
 use Rattle.pn_resolve.specs.Meaning.{Resolves}

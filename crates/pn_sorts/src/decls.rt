@@ -10,7 +10,8 @@ use pn_carriers::{has_value, nth, ordinal, size};
 use pn_faults::{Fault, Refusal};
 use pn_names::{Index, constant_id, declaration_id, variable_id, variable_places, widths};
 use pn_resolve::{ResolveFault, Table};
-use pn_values::{ConstantRef, Declaration, Size, Sort, SortExpr, Value};
+use pn_syntax::{Declaration, SortExpr};
+use pn_values::{ConstantRef, Size, Sort, Value};
 use sqlite_items::Items;
 use std::alloc::{AllocError, Global};
 use std::marker::Model;
@@ -37,7 +38,7 @@ pub struct Decls {
 impl Model for Decls {
     ghost use Rattle.std.specs.Prelude.{List};
     ghost use Rattle.std.specs.Coded.{codes};
-    ghost use Rattle.pn_values.specs.declared.declaration.Declaration.{Declaration};
+    ghost use Rattle.pn_syntax.specs.declared.declaration.Declaration.{Declaration};
     ghost use Rattle.pn_values.specs.contracts.declaration.Declaration as declaration;
     ghost use Rattle.pn_sorts.specs.Keeping.{IsKept};
 

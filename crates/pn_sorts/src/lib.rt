@@ -7,13 +7,11 @@ mod lookups;
 mod settle;
 
 pub use decls::Decls;
-pub use pn_faults::{Fault, Kind, Reason, Refusal};
+pub use pn_faults::{Fault, Reason, Refusal};
 pub use pn_names::{are_distinct, are_numbered};
 pub use pn_resolve::{MAX_DEPTH, MAX_NODES};
-pub use pn_values::{
-    ConstExpr, Constant, ConstantRef, Declaration, PartElement, Size, Sort, SortBody, SortExpr,
-    SortNode, Value,
-};
+pub use pn_syntax::{ConstExpr, Constant, Declaration, PartElement, SortBody, SortExpr, SortNode};
+pub use pn_values::{ConstantRef, Size, Sort, Value};
 
 /// The laws that walks over faults cite.
 pub mod laws {

@@ -5,7 +5,8 @@ ghost use Rattle.std.specs.Option.{option_and_then};
 ghost use Rattle.pn_values.specs.declared.sort.Sort.{Sort};
 ghost use Rattle.pn_sorts.specs.Lookups.{is_cyclic, is_cyclic_declaration, sort_at, sort_of_constant};
 
-use pn_values::{ConstantRef, Declaration, Sort, SortBody};
+use pn_syntax::{Declaration, SortBody};
+use pn_values::{ConstantRef, Sort};
 use sqlite_items::Items;
 
 /// Whether a declaration is a cyclic enumeration.

@@ -6,14 +6,15 @@ ghost use Rattle.pn_names.specs.Names.{AreNumbered, names_of};
 ghost use Rattle.pn_resolve.specs.Standing.{HasEmptyRange, base_of, elements_of, expr_of};
 ghost use Rattle.pn_resolve.specs.Tables.{IsTable, KeepsLeast};
 ghost use Rattle.pn_sorts.specs.Settling.{AreSettled, IsBadFault, IsBadIn, IsEntry, IsKnown, IsParting, IsPartingTable, IsTableEntry, ListEmptyRange};
-ghost use Rattle.pn_values.specs.declared.declaration.ConstExpr.{ConstExpr};
-ghost use Rattle.pn_values.specs.declared.declaration.Declaration.{Declaration};
-ghost use Rattle.pn_values.specs.declared.sort_expr.SortExpr.{SortExpr};
+ghost use Rattle.pn_syntax.specs.declared.declaration.ConstExpr.{ConstExpr};
+ghost use Rattle.pn_syntax.specs.declared.declaration.Declaration.{Declaration};
+ghost use Rattle.pn_syntax.specs.declared.sort_expr.SortExpr.{SortExpr};
 
 use pn_faults::{Fault, Reason, keep_least_at};
 use pn_names::{Index, part_table};
 use pn_resolve::{Extent, ResolveFault, Table, least_fault_of};
-use pn_values::{ConstExpr, Declaration, PartElement, Sort, SortBody, SortExpr};
+use pn_syntax::{ConstExpr, Declaration, PartElement, SortBody, SortExpr};
+use pn_values::Sort;
 use sqlite_items::Items;
 use std::alloc::{AllocError, Global};
 

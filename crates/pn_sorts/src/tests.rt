@@ -4,10 +4,9 @@ ghost use Rattle.std.specs.Prelude.{◌≡◌, IfOk};
 
 use crate::{Decls, are_distinct, are_numbered};
 use pn_faults::{Reason, Refusal};
+use pn_syntax::{ConstExpr, Constant, Declaration, PartElement, SortBody, SortExpr, SortNode};
 use pn_text::Text;
-use pn_values::{
-    ConstExpr, Constant, Declaration, PartElement, Sort, SortBody, SortExpr, SortNode,
-};
+use pn_values::Sort;
 use sqlite_items::Items;
 use std::alloc::{AllocError, Global};
 use std::process::Abort;

@@ -4,10 +4,10 @@ use Rattle.std.specs.List.{Contains}
 use Rattle.pn_faults.specs.declared.fault.Fault.{Fault}
 use Rattle.pn_faults.specs.declared.fault.Refusal.{Refusal}
 use Rattle.pn_faults.specs.declared.fault.Refusal.TheVariants as refusals
-use Rattle.pn_values.specs.declared.declaration.Declaration.{Declaration}
+use Rattle.pn_syntax.specs.declared.declaration.Declaration.{Declaration}
 use Rattle.pn_values.specs.declared.sort.Sort.{Sort}
 use Rattle.pn_values.specs.declared.sort.Sort.TheVariants as sorts
-use Rattle.pn_values.specs.declared.sort_expr.SortExpr.{SortExpr}
+use Rattle.pn_syntax.specs.declared.sort_expr.SortExpr.{SortExpr}
 use Rattle.pn_values.specs.Kin.{kin_of}
 use Rattle.pn_resolve.specs.Meaning.{Resolves}
 use Rattle.pn_resolve.proofs.Lists.{contains_nil, contains_cases}
@@ -15,10 +15,10 @@ use Rattle.pn_resolve.proofs.Meanings.{resolves_once}
 use Rattle.pn_resolve.specs.Standing.{IsFaultless, StandsIn as SortFault}
 use Rattle.pn_sorts.specs.Keeping.{IsRefusedFor}
 use Rattle.pn_sorts.specs.Lookups.{IsBaseSort, IsVariableSort, sort_of_constant}
-use Rattle.pn_terms.specs.declared.term.Term.{Term}
-use Rattle.pn_terms.specs.declared.term.TermSort.{TermSort}
-use Rattle.pn_terms.specs.declared.term.TermSort.TheVariants as terms
-use Rattle.pn_terms.specs.declared.term.TermNode.TheOpen as layer
+use Rattle.pn_syntax.specs.declared.term.Term.{Term}
+use Rattle.pn_terms.specs.declared.term_sort.TermSort.{TermSort}
+use Rattle.pn_terms.specs.declared.term_sort.TermSort.TheVariants as terms
+use Rattle.pn_syntax.specs.declared.term.TermNode.TheOpen as layer
 use Rattle.pn_terms.specs.Sorts.{Gives, HasSort, HaveSorts, none, more, is_small}
 use Rattle.pn_terms.specs.Standing.{StandsAlways, StandsWith, StandsAt, StandsIn, StandsInSome}
 use Rattle.pn_terms.specs.Terms.{IsPart, itself, inside, Layer, layer_of, parts_of}

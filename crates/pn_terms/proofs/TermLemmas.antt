@@ -1,14 +1,14 @@
 -- The outermost layer of a term, by what its node is.
 use Rattle.std.proofs.Common.{◌≡◌, ℕ, ℤ, List, Bool, sym, ap, ◌∙◌}
 use Rattle.pn_operators.specs.declared.op.Op.{Op}
-use Rattle.pn_values.specs.declared.sort_expr.SortExpr.{SortExpr}
-use Rattle.pn_terms.specs.declared.term.NumberSort.{NumberSort}
-use Rattle.pn_terms.specs.declared.term.Term.{Term}
-use Rattle.pn_terms.specs.declared.term.TermNode.{TermNode}
-use Rattle.pn_terms.specs.declared.term.TermNode.TheOpen as layer
-use Rattle.pn_terms.specs.declared.term.TermNode.TheVariants as nodes
-use Rattle.pn_terms.specs.declared.term.TermNode.TheVariants.{rolls-Variable, rolls-UserOp, rolls-Bool, rolls-Number, rolls-RangeConst, rolls-All, rolls-Empty, rolls-PartitionOf, rolls-Apply}
-use Rattle.pn_terms.specs.declared.term.TermNode.TheViews.{out-TermNode, out-roll-TermNode}
+use Rattle.pn_syntax.specs.declared.sort_expr.SortExpr.{SortExpr}
+use Rattle.pn_syntax.specs.declared.term.NumberSort.{NumberSort}
+use Rattle.pn_syntax.specs.declared.term.Term.{Term}
+use Rattle.pn_syntax.specs.declared.term.TermNode.{TermNode}
+use Rattle.pn_syntax.specs.declared.term.TermNode.TheOpen as layer
+use Rattle.pn_syntax.specs.declared.term.TermNode.TheVariants as nodes
+use Rattle.pn_syntax.specs.declared.term.TermNode.TheVariants.{rolls-Variable, rolls-UserOp, rolls-Bool, rolls-Number, rolls-RangeConst, rolls-All, rolls-Empty, rolls-PartitionOf, rolls-Apply}
+use Rattle.pn_syntax.specs.declared.term.TermNode.TheViews.{out-TermNode, out-roll-TermNode}
 
 pub out_variable : (n : TermNode) (name : List ℕ) → n ≡ nodes.Variable name → out-TermNode n ≡ layer.Variable name
 out_variable n name is = ap out-TermNode (is ∙ sym (rolls-Variable name)) ∙ out-roll-TermNode (layer.Variable name)

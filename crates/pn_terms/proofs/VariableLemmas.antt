@@ -2,12 +2,12 @@
 use Rattle.std.proofs.Common.{◌≡◌, ℕ, List, [], ◌∷◌, ◌++◌, map, refl, ap, ◌∙◌}
 use Rattle.std.specs.List.{flat_map}
 use Rattle.pn_operators.specs.declared.op.Op.{Op}
-use Rattle.pn_values.specs.declared.declaration.Declaration.{Declaration}
-use Rattle.pn_terms.specs.declared.term.Term.{Term}
-use Rattle.pn_terms.specs.declared.term.TermNode.{TermNode, map-TermNode}
-use Rattle.pn_terms.specs.declared.term.TermNode.TheOpen as layer
-use Rattle.pn_terms.specs.declared.term.TermNode.TheVariants as nodes
-use Rattle.pn_terms.specs.declared.term.TermNode.TheFolds.{fold-TermNode, fold_out-Term, fold_out-TermNode}
+use Rattle.pn_syntax.specs.declared.declaration.Declaration.{Declaration}
+use Rattle.pn_syntax.specs.declared.term.Term.{Term}
+use Rattle.pn_syntax.specs.declared.term.TermNode.{TermNode, map-TermNode}
+use Rattle.pn_syntax.specs.declared.term.TermNode.TheOpen as layer
+use Rattle.pn_syntax.specs.declared.term.TermNode.TheVariants as nodes
+use Rattle.pn_syntax.specs.declared.term.TermNode.TheFolds.{fold-TermNode, fold_out-Term, fold_out-TermNode}
 use Rattle.pn_terms.specs.Terms.{Layer, layer_of}
 use Rattle.pn_terms.specs.Variables.{variables_in_layer, variables_in_term}
 use Rattle.pn_terms.proofs.TermLemmas.{out_apply}

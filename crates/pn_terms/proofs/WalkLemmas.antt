@@ -3,18 +3,18 @@ use Rattle.std.proofs.Common.{◌≡◌, ◌⊎◌, inl, inr, ℕ, ◌+◌, ◌<
 use Rattle.std.proofs.lemmas.List.{take_all, take_more}
 use Rattle.std.specs.List.{Contains}
 use Rattle.pn_faults.specs.declared.fault.Fault.{Fault}
-use Rattle.pn_values.specs.declared.declaration.Declaration.{Declaration}
+use Rattle.pn_syntax.specs.declared.declaration.Declaration.{Declaration}
 use Rattle.pn_resolve.specs.Tables.{KeepsLeast}
 use Rattle.pn_resolve.proofs.Lists.{contains_nil, contains_one, contains_either, contains_left, contains_right, contains_first}
-use Rattle.pn_terms.specs.declared.term.Term.{Term}
-use Rattle.pn_terms.specs.declared.term.TermSort.{TermSort}
-use Rattle.pn_terms.specs.declared.term.TermSort.TheVariants as terms
-use Rattle.pn_terms.specs.declared.term.NumberSort.{NumberSort}
-use Rattle.pn_terms.specs.declared.term.TermNode.TheOpen as layer
-use Rattle.pn_terms.specs.declared.term.TermNode.TheVariants as nodes
+use Rattle.pn_syntax.specs.declared.term.Term.{Term}
+use Rattle.pn_terms.specs.declared.term_sort.TermSort.{TermSort}
+use Rattle.pn_terms.specs.declared.term_sort.TermSort.TheVariants as terms
+use Rattle.pn_syntax.specs.declared.term.NumberSort.{NumberSort}
+use Rattle.pn_syntax.specs.declared.term.TermNode.TheOpen as layer
+use Rattle.pn_syntax.specs.declared.term.TermNode.TheVariants as nodes
 use Rattle.pn_operators.specs.declared.op.Op.{Op}
 use Rattle.pn_values.specs.declared.sort.Sort.TheVariants as sorts
-use Rattle.pn_values.specs.declared.sort_expr.SortExpr.{SortExpr}
+use Rattle.pn_syntax.specs.declared.sort_expr.SortExpr.{SortExpr}
 use Rattle.pn_terms.specs.Rows.{AreAlike, first_of}
 use Rattle.pn_terms.specs.Sorts.{Gives, HasSort, HaveSorts, IsOfAll, IsOfConstant, IsOfElement, IsOfEmpty, IsOfOperator, IsOfVariable, is_good_number, is_in_range, none, more}
 use Rattle.pn_terms.specs.Standing.{AreWalked, HasSoundSort, HasSoundSorts, IsBadNumber, IsOutside, IsTold, IsTooLarge, IsUnknownOperator, IsUnknownPartition, IsUnknownVariable, IsWalked, IsWrongElement, IsWrongFor, SortOrFault, SortsOrFault, StandsAlways, StandsWith, StandsAt, StandsIn, StandsInSome}

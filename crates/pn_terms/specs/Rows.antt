@@ -5,14 +5,14 @@ use Rattle.std.specs.List.{list_all, Contains}
 use Rattle.pn_operators.specs.declared.op.Op.{Op}
 use Rattle.pn_operators.specs.declared.op.Op.TheVariants as op
 use Rattle.pn_operators.specs.Operators.{least_of, most_of}
-use Rattle.pn_values.specs.declared.declaration.Declaration.{Declaration}
+use Rattle.pn_syntax.specs.declared.declaration.Declaration.{Declaration}
 use Rattle.pn_values.specs.declared.sort.Sort.{Sort}
 use Rattle.pn_values.specs.declared.sort.Sort.TheVariants as sorts
 use Rattle.pn_values.specs.declared.sort.Sort.TheOpen as layer
 use Rattle.pn_values.specs.declared.sort.Sort.TheViews.{out-Sort}
 use Rattle.pn_sorts.specs.Lookups.{is_cyclic}
-use Rattle.pn_terms.specs.declared.term.TermSort.{TermSort}
-use Rattle.pn_terms.specs.declared.term.TermSort.TheVariants as terms
+use Rattle.pn_terms.specs.declared.term_sort.TermSort.{TermSort}
+use Rattle.pn_terms.specs.declared.term_sort.TermSort.TheVariants as terms
 use Rattle.pn_terms.specs.declared.family.Family.{Family}
 use Rattle.pn_terms.specs.declared.family.Family.TheVariants as families
 

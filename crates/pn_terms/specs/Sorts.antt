@@ -1,11 +1,11 @@
 -- The sort of a term (ISO/IEC 15909-2, terms): one case for each leaf, and for the operators their table. Natural and positive
 -- numbers are integers.
 use Rattle.std.specs.Prelude.{◌≡◌, ℕ, ℤ, List, [], ◌∷◌, Bool, true, false, nat_le, Option, None, Some}
-use Rattle.pn_values.specs.declared.declaration.Declaration.{Declaration}
-use Rattle.pn_values.specs.declared.declaration.ConstantRef.{ConstantRef}
+use Rattle.pn_syntax.specs.declared.declaration.Declaration.{Declaration}
+use Rattle.pn_values.specs.declared.constant_ref.ConstantRef.{ConstantRef}
 use Rattle.pn_values.specs.declared.sort.Sort.{Sort}
 use Rattle.pn_values.specs.declared.sort.Sort.TheVariants as sorts
-use Rattle.pn_values.specs.declared.sort_expr.SortExpr.{SortExpr}
+use Rattle.pn_syntax.specs.declared.sort_expr.SortExpr.{SortExpr}
 use Rattle.pn_values.specs.declared.value.Value.TheVariants as values
 use Rattle.pn_values.specs.Kin.{kin_of}
 use Rattle.pn_carriers.specs.Members.{is_member}
@@ -14,12 +14,12 @@ use Rattle.pn_names.specs.Names.{constant_named, partition_named, variable_named
 use Rattle.pn_resolve.specs.Meaning.{Resolves}
 use Rattle.pn_sorts.specs.Lookups.{IsBaseSort, IsVariableSort, sort_of_constant}
 use Rattle.pn_terms.specs.declared.TheConstants.{MAX_ALL}
-use Rattle.pn_terms.specs.declared.term.NumberSort.{NumberSort}
-use Rattle.pn_terms.specs.declared.term.NumberSort.TheVariants as numbers
-use Rattle.pn_terms.specs.declared.term.Term.{Term}
-use Rattle.pn_terms.specs.declared.term.TermSort.{TermSort}
-use Rattle.pn_terms.specs.declared.term.TermSort.TheVariants as terms
-use Rattle.pn_terms.specs.declared.term.TermNode.TheOpen as layer
+use Rattle.pn_syntax.specs.declared.term.NumberSort.{NumberSort}
+use Rattle.pn_syntax.specs.declared.term.NumberSort.TheVariants as numbers
+use Rattle.pn_syntax.specs.declared.term.Term.{Term}
+use Rattle.pn_terms.specs.declared.term_sort.TermSort.{TermSort}
+use Rattle.pn_terms.specs.declared.term_sort.TermSort.TheVariants as terms
+use Rattle.pn_syntax.specs.declared.term.TermNode.TheOpen as layer
 use Rattle.pn_operators.specs.declared.op.Op.{Op}
 use Rattle.pn_terms.specs.Rows.{Fits, given_by}
 use Rattle.pn_terms.specs.Terms.{Layer, layer_of, parts_of}

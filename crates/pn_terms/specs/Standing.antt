@@ -5,9 +5,9 @@ use Rattle.pn_faults.specs.declared.fault.Fault.{Fault}
 use Rattle.pn_faults.specs.Least.{lower}
 use Rattle.pn_faults.specs.Order.{fault_at}
 use Rattle.pn_faults.specs.declared.reason.Reason.TheVariants as reasons
-use Rattle.pn_values.specs.declared.declaration.Declaration.{Declaration}
+use Rattle.pn_syntax.specs.declared.declaration.Declaration.{Declaration}
 use Rattle.pn_values.specs.declared.sort.Sort.{Sort}
-use Rattle.pn_values.specs.declared.sort_expr.SortExpr.{SortExpr}
+use Rattle.pn_syntax.specs.declared.sort_expr.SortExpr.{SortExpr}
 use Rattle.pn_names.specs.Names.{constant_named, partition_named, variable_named}
 use Rattle.pn_operators.specs.declared.op.Op.{Op}
 use Rattle.pn_operators.specs.Operators.{name_of}
@@ -15,11 +15,11 @@ use Rattle.pn_resolve.specs.Meaning.{Resolves}
 use Rattle.pn_resolve.specs.Standing.{StandsIn as SortFault}
 use Rattle.pn_resolve.specs.Tables.{KeepsLeast}
 use Rattle.pn_sorts.specs.Lookups.{IsBaseSort}
-use Rattle.pn_terms.specs.declared.term.NumberSort.{NumberSort}
-use Rattle.pn_terms.specs.declared.term.Term.{Term}
-use Rattle.pn_terms.specs.declared.term.TermSort.{TermSort}
-use Rattle.pn_terms.specs.declared.term.TermSort.TheVariants as terms
-use Rattle.pn_terms.specs.declared.term.TermNode.TheOpen as layer
+use Rattle.pn_syntax.specs.declared.term.NumberSort.{NumberSort}
+use Rattle.pn_syntax.specs.declared.term.Term.{Term}
+use Rattle.pn_terms.specs.declared.term_sort.TermSort.{TermSort}
+use Rattle.pn_terms.specs.declared.term_sort.TermSort.TheVariants as terms
+use Rattle.pn_syntax.specs.declared.term.TermNode.TheOpen as layer
 use Rattle.pn_terms.specs.Rows.{Fits}
 use Rattle.pn_terms.specs.Sorts.{HasSort, HaveSorts, is_good_number, is_in_range, is_small}
 use Rattle.pn_terms.specs.Terms.{IsPart, Layer, layer_of, parts_of}

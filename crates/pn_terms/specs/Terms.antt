@@ -1,10 +1,10 @@
 -- The parts of a term, and the terms in it.
 use Rattle.std.specs.Prelude.{◌≡◌, List, [], ◌∷◌}
 use Rattle.std.specs.List.{Contains}
-use Rattle.pn_terms.specs.declared.term.Term.{Term}
-use Rattle.pn_terms.specs.declared.term.TermNode.{TermNode}
-use Rattle.pn_terms.specs.declared.term.TermNode.TheOpen as layer
-use Rattle.pn_terms.specs.declared.term.TermNode.TheViews.{out-TermNode}
+use Rattle.pn_syntax.specs.declared.term.Term.{Term}
+use Rattle.pn_syntax.specs.declared.term.TermNode.{TermNode}
+use Rattle.pn_syntax.specs.declared.term.TermNode.TheOpen as layer
+use Rattle.pn_syntax.specs.declared.term.TermNode.TheViews.{out-TermNode}
 
 -- one layer of a term
 abbrev pub Layer : Type 0

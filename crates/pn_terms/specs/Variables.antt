@@ -2,11 +2,11 @@
 use Rattle.std.specs.Prelude.{ℕ, List, []}
 use Rattle.std.specs.List.{flat_map}
 use Rattle.std.specs.Option.{option_to_list}
-use Rattle.pn_values.specs.declared.declaration.Declaration.{Declaration}
+use Rattle.pn_syntax.specs.declared.declaration.Declaration.{Declaration}
 use Rattle.pn_names.specs.Names.{variable_named}
-use Rattle.pn_terms.specs.declared.term.Term.{Term}
-use Rattle.pn_terms.specs.declared.term.TermNode.TheOpen as layer
-use Rattle.pn_terms.specs.declared.term.TermNode.TheFolds.{fold-Term}
+use Rattle.pn_syntax.specs.declared.term.Term.{Term}
+use Rattle.pn_syntax.specs.declared.term.TermNode.TheOpen as layer
+use Rattle.pn_syntax.specs.declared.term.TermNode.TheFolds.{fold-Term}
 
 -- the variables of a layer, where those of its parts are known
 abbrev pub variables_in_layer : List Declaration → layer.TermNode-F (List ℕ) (List ℕ) → List ℕ

@@ -3,7 +3,7 @@
 ghost use Rattle.std.specs.Prelude.{◌≡◌, ◌↔◌, ◌<◌, IsTrue, length, slice_index_or};
 ghost use Rattle.std.specs.List.{list_all};
 ghost use Rattle.pn_terms.specs.Rows.{AreAlike, is_basis_in, is_in, is_round};
-ghost use Rattle.pn_terms.specs.declared.term.TermSort.{TermSort};
+ghost use Rattle.pn_terms.specs.declared.term_sort.TermSort.{TermSort};
 ghost use Rattle.pn_values.specs.declared.sort.Sort.{Sort};
 
 use crate::TermSort;

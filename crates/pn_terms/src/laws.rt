@@ -4,9 +4,9 @@ ghost use Rattle.std.specs.Prelude.{◌≡◌, List};
 ghost use Rattle.pn_faults.specs.declared.fault.Fault.{Fault};
 ghost use Rattle.pn_terms.specs.Sorts.{HasSort};
 ghost use Rattle.pn_terms.specs.Standing.{StandsIn};
-ghost use Rattle.pn_terms.specs.declared.term.Term.{Term};
-ghost use Rattle.pn_terms.specs.declared.term.TermSort.{TermSort};
-ghost use Rattle.pn_values.specs.declared.declaration.Declaration.{Declaration};
+ghost use Rattle.pn_syntax.specs.declared.term.Term.{Term};
+ghost use Rattle.pn_terms.specs.declared.term_sort.TermSort.{TermSort};
+ghost use Rattle.pn_syntax.specs.declared.declaration.Declaration.{Declaration};
 
 /// A term has at most one sort.
 pub fn a_term_has_one_sort()

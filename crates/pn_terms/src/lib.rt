@@ -6,15 +6,16 @@ pub mod laws;
 mod nodes;
 mod rules;
 mod sound;
-mod term;
+mod term_sort;
 #[cfg(test)]
 mod tests;
 mod typing;
 mod variable_list;
 
-pub use pn_operators::{OP_TABLE, Op, OpRow, find_op, op_name, row_of};
+pub use pn_operators::{Kind, OP_TABLE, Op, OpRow, find_op, op_name, row_of};
+pub use pn_syntax::{NumberSort, Term, TermNode};
 pub use sound::has_sound_sorts;
-pub use term::{NumberSort, Term, TermNode, TermSort};
+pub use term_sort::TermSort;
 pub use typing::sort_of;
 pub use variable_list::variables;
 

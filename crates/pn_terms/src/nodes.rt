@@ -9,14 +9,15 @@ ghost use Rattle.pn_resolve.specs.Tables.{KeepsLeast};
 ghost use Rattle.pn_sorts.specs.Lookups.{IsBaseSort, base_expr};
 ghost use Rattle.pn_terms.specs.Sorts.{IsOfAll, IsOfConstant, IsOfElement, IsOfEmpty, IsOfOperator, IsOfVariable, is_good_number, is_in_range, is_small, number_sort};
 ghost use Rattle.pn_terms.specs.Standing.{IsBadNumber, IsOutside, IsTold, IsTooLarge, IsUnknownOperator, IsUnknownPartition, IsUnknownVariable, IsWrongElement, IsWrongFor};
-ghost use Rattle.pn_terms.specs.declared.term.TermSort.{TermSort};
+ghost use Rattle.pn_terms.specs.declared.term_sort.TermSort.{TermSort};
 ghost use Rattle.pn_values.specs.declared.sort.Sort.{Sort};
 
 use crate::rules::row_sort;
 use crate::{MAX_ALL, NumberSort, TermSort};
 use pn_faults::keep_least_at;
 use pn_operators::{Op, op_name};
-use pn_sorts::{Decls, Fault, Reason, Refusal, Size, Sort, SortExpr, Value};
+use pn_sorts::{Decls, Fault, Reason, Refusal, Size, Sort, Value};
+use pn_syntax::SortExpr;
 use std::alloc::{AllocError, Global};
 
 /// A variable has the kin of its sort.

@@ -5,7 +5,7 @@ ghost use Rattle.std.specs.Prelude.{◌≡◌, ◌<◌, ◌-◌, true, length, m
 ghost use Rattle.pn_operators.specs.declared.op.Op.{Op};
 ghost use Rattle.pn_terms.specs.Rows.{AreAlike, AreIn, Fits, IsGiven, Suit, basis_of, first_of, given_by, is_counted, is_scaled, last_of, takes};
 ghost use Rattle.pn_terms.specs.declared.family.Family.{Family};
-ghost use Rattle.pn_terms.specs.declared.term.TermSort.{TermSort};
+ghost use Rattle.pn_terms.specs.declared.term_sort.TermSort.{TermSort};
 ghost use Rattle.pn_values.specs.declared.sort.Sort.{Sort};
 
 use crate::TermSort;

@@ -5,10 +5,11 @@ ghost use Rattle.std.specs.List.{Contains};
 ghost use Rattle.pn_faults.specs.declared.fault.Fault.{Fault};
 ghost use Rattle.pn_resolve.specs.Standing.{IsFaultless, StandsIn};
 ghost use Rattle.pn_terms.specs.Standing.{HasSoundSorts};
-ghost use Rattle.pn_terms.specs.declared.term.Term.{Term};
+ghost use Rattle.pn_syntax.specs.declared.term.Term.{Term};
 
 use crate::{Term, TermNode};
-use pn_sorts::{Decls, Refusal, SortExpr};
+use pn_sorts::{Decls, Refusal};
+use pn_syntax::SortExpr;
 use std::alloc::{AllocError, Global};
 
 /// Whether no fault stands in the sorts that a term writes: what `sort_of` asks for. The recursion

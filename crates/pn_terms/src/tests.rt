@@ -6,11 +6,9 @@ ghost use Rattle.pn_resolve.specs.Standing.{IsFaultless};
 use crate::{
     NumberSort, Op, Term, TermNode, TermSort, find_op, has_sound_sorts, laws, sort_of, variables,
 };
-use pn_faults::{Kind, Reason, Refusal};
-use pn_sorts::{
-    ConstExpr, Constant, Declaration, Decls, PartElement, Sort, SortBody, SortExpr, SortNode,
-    are_distinct, are_numbered,
-};
+use pn_faults::{Reason, Refusal};
+use pn_sorts::{Decls, Sort, are_distinct, are_numbered};
+use pn_syntax::{ConstExpr, Constant, Declaration, PartElement, SortBody, SortExpr, SortNode};
 use pn_text::Text;
 use sqlite_items::{Boxed, Items};
 use std::alloc::{AllocError, Global};

@@ -8,7 +8,7 @@ ghost use Rattle.pn_faults.specs.Standing.{IsLeastOf};
 ghost use Rattle.pn_resolve.specs.Standing.{IsFaultless};
 ghost use Rattle.pn_terms.specs.Sorts.{HasSort};
 ghost use Rattle.pn_terms.specs.Standing.{AreWalked, HasSoundSorts, IsWalked, StandsIn};
-ghost use Rattle.pn_terms.specs.declared.term.Term.{Term};
+ghost use Rattle.pn_syntax.specs.declared.term.Term.{Term};
 
 use crate::nodes::{
     all, applied, constant, element, empty, keep_partition, number, range, variable,

@@ -10,7 +10,8 @@ use Rattle.pn_tree.specs.declared.element.Child.TheVariants as children
 use Rattle.pn_tree.specs.declared.element.Child.TheViews.{out-Child, roll-Child, roll-out-Child}
 use Rattle.pn_tree.specs.declared.element.Child.TheVariants.{rolls-Element}
 use Rattle.pn_tree.specs.declared.element.Child.TheFolds.{fold_out-Element, fold-roll-Child}
-use Rattle.pn_tree.proofs.TreeLemmas.{and_left, and_right, and_both, parts_of, of_parts, not_element-zero}
+use Rattle.pn_tree.proofs.TreeLemmas.{parts_of, of_parts, not_element-zero}
+use Rattle.pn_facts.proofs.Truths.{and_left, and_right, and_both}
 
 pub depth_is : (e : Element) → depth_of e ≡ suc (greatest (map kid_depth e.kids))
 depth_is e = fold_out-Element ℕ ℕ kid_levels element_levels e ∙ refl

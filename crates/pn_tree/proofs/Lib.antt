@@ -4,7 +4,6 @@ pub mod EscapeLemmas
 pub mod PutLemmas
 pub mod BuildLemmas
 pub mod StackLemmas
-pub mod TextLemmas
 pub mod DepthLemmas
 pub mod OpenLemmas
 pub mod KeptLemmas

@@ -6,7 +6,7 @@ use Rattle.std.specs.Str.{bytes_eq}
 use Rattle.std.proofs.lemmas.Bool.{false≢true}
 use Rattle.std.proofs.lemmas.List.Folds.{list_all-append}
 use Rattle.std.proofs.lemmas.Slice.Eq.{bytes_eq-Decides}
-use Rattle.pn_tree.specs.Characters.{is_name, is_text}
+use Rattle.pn_text.specs.Characters.{is_name, is_text}
 use Rattle.pn_tree.specs.Elements.{attr_value, are_attrs, is_text_kid, is_text_layer, begins_with_text, are_apart, is_kid, is_kid_layer, is_kid_text, is_element, IsTree}
 use Rattle.pn_tree.specs.Depth.{depth_of}
 use Rattle.pn_tree.proofs.DepthLemmas.{fits_depth}
@@ -19,8 +19,9 @@ use Rattle.pn_tree.specs.declared.element.Child.TheOpen as layer
 use Rattle.pn_tree.specs.declared.element.Child.TheVariants as children
 use Rattle.pn_tree.specs.declared.element.Child.TheViews.{out-Child}
 use Rattle.pn_tree.proofs.ElementLemmas.{is_text_kid-element, is_text_kid-text, is_kid-element, is_kid-text}
-use Rattle.pn_tree.proofs.TextLemmas.{is_text-append}
-use Rattle.pn_tree.proofs.TreeLemmas.{and_left, and_right, and_both, Parts, parts_of, of_parts, not_element-zero}
+use Rattle.pn_text.proofs.TextLemmas.{is_text-append}
+use Rattle.pn_tree.proofs.TreeLemmas.{Parts, parts_of, of_parts, not_element-zero}
+use Rattle.pn_facts.proofs.Truths.{and_left, and_right, and_both}
 
 -- attributes
 

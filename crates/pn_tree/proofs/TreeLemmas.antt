@@ -2,7 +2,9 @@
 use Rattle.std.proofs.Common.{◌≡◌, ℕ, zero, suc, ◌<◌, ◌≤◌, Bool, true, false, ◌&&◌, List, [], ◌∷◌, length, get_or, refl, sym, ap, ◌∙◌, arith}
 use Rattle.std.specs.List.{list_all}
 use Rattle.std.proofs.lemmas.Bool.{false≢true}
-use Rattle.pn_tree.specs.Characters.{is_name}
+use Rattle.pn_facts.proofs.Truths.{and_left, and_right, and_both}
+use Rattle.pn_facts.proofs.Lists.{list_all_each, list_all_get}
+use Rattle.pn_text.specs.Characters.{is_name}
 use Rattle.pn_tree.specs.Elements.{are_attrs, are_apart, is_kid, is_kid_layer, is_element, IsTree}
 use Rattle.pn_tree.specs.declared.element.Element.{Element}
 use Rattle.pn_tree.specs.declared.element.Child.{Child}
@@ -10,27 +12,6 @@ use Rattle.pn_tree.specs.declared.element.Child.TheOpen as layer
 use Rattle.pn_tree.specs.declared.element.Child.TheVariants as children
 use Rattle.pn_tree.specs.declared.element.Child.TheViews.{out-Child}
 use Rattle.pn_tree.proofs.ElementLemmas.{is_kid-element}
-
-pub and_left : (a b : Bool) → (a && b) ≡ true → a ≡ true
-and_left true b h = refl
-and_left false b h = h
-
-pub and_right : (a b : Bool) → (a && b) ≡ true → b ≡ true
-and_right true b h = h
-and_right false b h = absurd (false≢true h)
-
-pub and_both : (a b : Bool) → a ≡ true → b ≡ true → (a && b) ≡ true
-and_both true b p q = q
-and_both false b p q = p
-
-pub list_all_each : {X : Type 0} (p q : X → Bool) → ((x : X) → p x ≡ true → q x ≡ true) → (xs : List X) → list_all p xs ≡ true → list_all q xs ≡ true
-list_all_each p q f [] h = refl
-list_all_each p q f (x ∷ xs) h = and_both (q x) (list_all q xs) (f x (and_left (p x) (list_all p xs) h)) (list_all_each p q f xs (and_right (p x) (list_all p xs) h))
-
-pub list_all_get : {X : Type 0} (p : X → Bool) (xs : List X) (i : ℕ) (d : X) → i < length xs → list_all p xs ≡ true → p (get_or xs i d) ≡ true
-list_all_get p [] i d lt h = absurd (omega arith)
-list_all_get p (x ∷ xs) zero d lt h = and_left (p x) (list_all p xs) h
-list_all_get p (x ∷ xs) (suc i) d lt h = list_all_get p xs i d (omega arith) (and_right (p x) (list_all p xs) h)
 
 -- what an element of at most `suc levels` levels has
 pub record Parts (levels : ℕ) (e : Element) : Type 0 where

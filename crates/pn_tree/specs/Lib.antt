@@ -1,4 +1,3 @@
-pub mod Characters
 pub mod Elements
 pub mod Depth
 pub mod Building

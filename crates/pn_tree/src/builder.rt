@@ -35,7 +35,7 @@ impl Model for Builder {
 
 impl Builder {
     ghost use Rattle.std.specs.Prelude.{◌≡◌, ◌+◌, ◌<◌, ◌≤◌, [], length, true, None, Some, OnOk, IsSome, IfSome};
-    ghost use Rattle.pn_tree.specs.Characters.{is_name, is_text};
+    ghost use Rattle.pn_text.specs.Characters.{is_name, is_text};
     ghost use Rattle.pn_tree.specs.Elements.{attr_value};
     ghost use Rattle.pn_tree.specs.Building.{nothing_built, innermost, begun, at_innermost, with_attr, with_text, with_kid, ended};
     ghost use Rattle.pn_tree.specs.Depth.{depth_of};

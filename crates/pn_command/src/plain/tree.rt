@@ -2,7 +2,7 @@
 
 ghost use Rattle.std.specs.Prelude.{◌≡◌, ◌≤◌, ◌+◌, ◌++◌, ◌∷◌, [], map, length, true, IfOk, OnOk, IsSome, IfSome, None};
 ghost use Rattle.pn_tree.specs.Building.{Building, innermost, at_innermost, with_kid};
-ghost use Rattle.pn_tree.specs.Characters.{is_name};
+ghost use Rattle.pn_text.specs.Characters.{is_name};
 ghost use Rattle.pn_tree.specs.declared.element.Child.TheVariants as children;
 ghost use Rattle.pn_command.specs.Building.{IsOpen, with_kids};
 ghost use Rattle.pn_command.specs.NetTree.{number_tree, label_kids, place_kid, transition_kid, arc_kid, page_tree, tree_of_net};

@@ -1,8 +1,8 @@
 use Rattle.std.proofs.Common.{rules, ◌∙◌}
 use Rattle.std.proofs.lemmas.Iterator.{YieldsList-from_chars}
 use Rattle.std.proofs.lemmas.Iterator.Search.{all_from_yields_List}
-use Rattle.pn_tree.specs.Characters.{is_character}
-use Rattle.pn_carriers.proofs.TextLemmas.{text_by_characters}
+use Rattle.pn_text.specs.Characters.{is_character}
+use Rattle.pn_text.proofs.TextLemmas.{text_by_characters}
 use Rattle.pn_carriers.proofs.members.is_text.Goals as goal
 
 pub returns : goal.returns

@@ -5,7 +5,8 @@ use Rattle.std.specs.String.{string_eq}
 use Rattle.indexmap.proofs.CallerLemmas.{insert_entry-new}
 use Rattle.pn_names.specs.Index.{entry_name, entry_names}
 use Rattle.pn_names.specs.Names.{named_in}
-use Rattle.pn_names.proofs.IndexLemmas.{named_of_entries, none_unless_some, notes_one}
+use Rattle.pn_names.proofs.IndexLemmas.{named_of_entries, notes_one}
+use Rattle.pn_facts.proofs.Options.{none_unless_some}
 use Rattle.pn_names.proofs.names.note.Goals as goal
 
 pub returns-clause-put : goal.returns-clause-put

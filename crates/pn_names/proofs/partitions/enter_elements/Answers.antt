@@ -1,6 +1,6 @@
 use Rattle.std.proofs.Common.{◌≡◌, ℕ, List, ◌++◌, Some, map, take, length, subst, refl, sym, ap, ◌∙◌, arith}
 use Rattle.std.specs.List.{flat_map, slice_get}
-use Rattle.pn_values.specs.declared.declaration.ConstExpr.{ConstExpr}
+use Rattle.pn_syntax.specs.declared.declaration.ConstExpr.{ConstExpr}
 use Rattle.pn_names.specs.Tables.{place_of, places_in, IsFilled, IsSpoilt}
 use Rattle.pn_names.proofs.TableLemmas.{places_there, next_places, refused_element}
 use Rattle.pn_names.proofs.partitions.enter_elements.Goals as goal

@@ -1,4 +1,4 @@
-use Rattle.pn_tree.proofs.TextLemmas.{is_text-utf8}
+use Rattle.pn_text.proofs.TextLemmas.{is_text-utf8}
 use Rattle.pn_scan.proofs.open_tree.as_text.Goals as goal
 
 pub unreachable-requires : goal.unreachable-requires

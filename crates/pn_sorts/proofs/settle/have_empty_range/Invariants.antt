@@ -1,6 +1,6 @@
 use Rattle.std.proofs.Common.{Contains, take}
 use Rattle.pn_resolve.specs.Standing.{HasEmptyRange}
-use Rattle.pn_values.specs.declared.declaration.ConstExpr.{ConstExpr}
+use Rattle.pn_syntax.specs.declared.declaration.ConstExpr.{ConstExpr}
 use Rattle.pn_sorts.proofs.settle.have_empty_range.Given as goal
 
 abbrev pub invariant-loop-value : goal.invariant-loop-value

@@ -2,7 +2,7 @@ use Rattle.std.proofs.Common.{◌≡◌, ap, refl, sym, ◌∙◌, subst}
 use Rattle.pn_names.specs.Names.{at_of, id_of}
 use Rattle.pn_resolve.specs.Standing.{base_of, elements_of, expr_of}
 use Rattle.pn_sorts.specs.Settling.{IsTableEntry}
-use Rattle.pn_values.specs.declared.declaration.Declaration.TheVariants as declarations
+use Rattle.pn_syntax.specs.declared.declaration.Declaration.TheVariants as declarations
 use Rattle.pn_sorts.proofs.SettleLemmas.{IsPartitionOf, entry_of, partition_keeps, partition_table, same_some}
 use Rattle.pn_sorts.proofs.settle.settle_item.Goals as goal
 

@@ -1,6 +1,6 @@
 use Rattle.std.proofs.Common.{◌≡◌, take}
 use Rattle.std.specs.List.{Contains}
-use Rattle.pn_terms.specs.declared.term.TermSort.{TermSort}
+use Rattle.pn_terms.specs.declared.term_sort.TermSort.{TermSort}
 use Rattle.pn_terms.specs.Rows.{first_of}
 use Rattle.pn_terms.proofs.family.are_alike.Given as goal
 

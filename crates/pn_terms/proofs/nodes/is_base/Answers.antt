@@ -1,5 +1,5 @@
 use Rattle.std.proofs.Common.{◌≡◌, ◌∙◌, ap, sym, true, false}
-use Rattle.pn_terms.specs.declared.term.TermSort.TheVariants as terms
+use Rattle.pn_terms.specs.declared.term_sort.TermSort.TheVariants as terms
 use Rattle.pn_terms.proofs.SortLemmas.{bag_is_no_basis, same_basis}
 use Rattle.pn_terms.proofs.nodes.is_base.Goals as goal
 

@@ -1,6 +1,6 @@
 use Rattle.std.proofs.Common.{take}
 use Rattle.std.specs.List.{Contains}
-use Rattle.pn_terms.specs.declared.term.Term.{Term}
+use Rattle.pn_syntax.specs.declared.term.Term.{Term}
 use Rattle.pn_terms.specs.Standing.{HasSoundSorts}
 use Rattle.pn_terms.proofs.sound.+sound.Given as goal
 

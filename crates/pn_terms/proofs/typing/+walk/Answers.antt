@@ -1,6 +1,6 @@
 use Rattle.std.proofs.Common.{◌∙◌, ◌+◌, [], rules, sym, subst, take, cond, Some, None}
 use Rattle.pn_terms.specs.Standing.{AreWalked}
-use Rattle.pn_terms.specs.declared.term.TermNode.TheViews.{the_lemmas}
+use Rattle.pn_syntax.specs.declared.term.TermNode.TheViews.{the_lemmas}
 use Rattle.pn_terms.proofs.WalkLemmas.{all_end, all_none, all_step, all_stop, if_ok_more, next_of, sound_all, sound_args, sound_element, sound_empty, walked_all_values, walked_apply, walked_constant, walked_element, walked_empty, walked_no_apply, walked_no_element, walked_number, walked_range, walked_truth, walked_variable}
 use Rattle.pn_terms.proofs.typing.+walk.Goals as goal
 use Rattle.pn_terms.proofs.typing.+walk.Goals.{walk_all-in-Some+in_ok-push-in-Some, walk_all-in-None}

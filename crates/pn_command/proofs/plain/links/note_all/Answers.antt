@@ -1,6 +1,7 @@
 use Rattle.std.proofs.Common.{◌≡◌, ◌≢◌, ℕ, List, None, [], ◌∷◌, ◌++◌, ap, sym, ◌∙◌, subst}
 use Rattle.pn_command.specs.Links.{role_in}
-use Rattle.pn_command.proofs.RoleLemmas.{noted_next, noted_clash, not_none, none_from}
+use Rattle.pn_command.proofs.RoleLemmas.{noted_next, noted_clash}
+use Rattle.pn_facts.proofs.Options.{not_none, none_from}
 use Rattle.pn_command.proofs.plain.links.note_all.Goals as goal
 
 pub returns-then-not-branch : goal.returns-then-not-branch

@@ -3,7 +3,7 @@ use Rattle.std.proofs.lemmas.List.{map-append}
 use Rattle.std.specs.String.{string_eq}
 use Rattle.indexmap.proofs.CallerLemmas.{insert_entry-new}
 use Rattle.pn_command.specs.Index.{entry_name, names_in}
-use Rattle.pn_command.proofs.RoleLemmas.{none_unless_some}
+use Rattle.pn_facts.proofs.Options.{none_unless_some}
 use Rattle.pn_command.proofs.plain.links.put_new.Goals as goal
 
 pub returns-clause-put : goal.returns-clause-put

@@ -1,9 +1,7 @@
-//! Terms and their sorts.
+ghost use Rattle.std.specs.Prelude.{◌≡◌, IfOk};
 
-ghost use Rattle.std.specs.Prelude.{◌≡◌, ◌↔◌, IfOk, IsTrue};
-
+use crate::SortExpr;
 use pn_operators::Op;
-use pn_sorts::{Sort, SortExpr};
 use pn_text::Text;
 use sqlite_items::{Boxed, Items};
 use std::alloc::{AllocError, Global};
@@ -39,13 +37,6 @@ pub enum TermNode {
     Empty(SortExpr),
     PartitionOf { partition: Text, arg: Boxed<Term> },
     Apply { op: Op, args: Items<Term> },
-}
-
-/// The sort of a term: a basis sort, or the multisets over one.
-#[derive(Debug, Drop)]
-pub enum TermSort {
-    Basis(Sort),
-    Bag(Sort),
 }
 
 impl Term {
@@ -103,27 +94,4 @@ fn copy_all(alloc: Global, terms: &[Term]) -> Result<Items<Term>, AllocError>
         all.push(term.copy(alloc)?)?;
     }
     Ok(all)
-}
-
-impl TermSort {
-    /// The same sort, in memory of its own.
-    pub fn copy(&self, alloc: Global) -> Result<TermSort, AllocError>
-        ensures { IfOk result (λ sort. sort ≡ self.now) }
-    {
-        match self {
-            TermSort::Basis(sort) => Ok(TermSort::Basis(sort.copy(alloc)?)),
-            TermSort::Bag(sort) => Ok(TermSort::Bag(sort.copy(alloc)?)),
-        }
-    }
-
-    /// Whether the two sorts are the same.
-    pub fn is_same(&self, other: &TermSort) -> bool
-        ensures { IsTrue result ↔ (self.now ≡ other.now) }
-    {
-        match (self, other) {
-            (TermSort::Basis(one), TermSort::Basis(two)) => one.is_same(two),
-            (TermSort::Bag(one), TermSort::Bag(two)) => one.is_same(two),
-            _ => false,
-        }
-    }
 }

@@ -1,5 +1,5 @@
 use Rattle.std.proofs.Common.{◌≡◌, take}
-use Rattle.pn_terms.proofs.term.+copy.Given as goal
+use Rattle.pn_syntax.proofs.term.+copy.Given as goal
 
 abbrev pub invariant-copy_all-loop-term : goal.invariant-copy_all-loop-term
 invariant-copy_all-loop-term l = l.all ≡ take l.term-index l.terms

@@ -1,0 +1,4 @@
+pub mod Truths
+pub mod Options
+pub mod Lists
+pub mod Bytes
