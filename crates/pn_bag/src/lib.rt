@@ -22,6 +22,3 @@ pub use multiset::Bag;
 
 /// The greatest count that a key of a bag may have: 2^63 - 1.
 pub const MAX_COUNT: u64 = 9223372036854775807;
-
-#[cfg(test)]
-mod tests;

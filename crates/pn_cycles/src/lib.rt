@@ -12,6 +12,3 @@ mod search;
 
 pub use graph::Graph;
 pub use order::{Order, order_of};
-
-#[cfg(test)]
-mod tests;

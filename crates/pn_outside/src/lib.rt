@@ -16,6 +16,3 @@ pub use plain::{CountSink, PlainSource};
 pub use put::{put_all, put_text};
 pub use streams::{StdSink, StdSource};
 pub use traits::{Failed, Sink, Source};
-
-#[cfg(test)]
-mod tests;

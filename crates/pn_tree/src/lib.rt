@@ -16,6 +16,3 @@ use element::{Attr, Child, Element};
 pub use put::{put_tree, text_length};
 pub use tree::Tree;
 pub use view::{Kid, View};
-
-#[cfg(test)]
-mod tests;

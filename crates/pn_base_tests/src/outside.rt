@@ -1,6 +1,11 @@
-use super::*;
+use pn_outside::{
+    CountSink, Failed, MemorySink, MemorySource, PlainSource, Sink, Source, StdSink, StdSource,
+    put_all,
+};
+use std::alloc::Global;
 use std::io;
 use std::io::{ErrorKind, Read, Write};
+use std::process::Abort;
 use std::test::Fail;
 
 /// A reader and writer of which one call of each kind fails.
@@ -52,13 +57,18 @@ impl Write for Flaky {
     }
 }
 
+/// The next reads into four bytes answer this, one after the other.
+fn reads<S: Source>(rt: &impl Abort, source: &mut S, sizes: &[Result<usize, Failed>]) {
+    let mut buffer = [0; 4];
+    for size in sizes {
+        assert!(rt; source.read(&mut buffer) == *size);
+    }
+}
+
 #[test]
 fn a_failing_reader_is_a_fault_once(rt: HostRuntime) {
     let mut source = StdSource::new(make_flaky());
-    let mut buffer = [0; 4];
-    assert_eq!(rt; source.read(&mut buffer), Ok(1));
-    assert_eq!(rt; source.read(&mut buffer), Err(Failed));
-    assert_eq!(rt; source.read(&mut buffer), Ok(1));
+    reads(&rt, &mut source, &[Ok(1), Err(Failed), Ok(1)]);
 }
 
 #[test]
@@ -72,36 +82,51 @@ fn a_failing_writer_is_a_fault_each_time(rt: HostRuntime) {
     assert_eq!(rt; sink.done(), Ok(()));
 }
 
-#[test]
-fn cuts_go_round_and_listed_reads_fail(rt: HostRuntime) -> Result<(), Fail> {
-    let alloc = rt.alloc();
+/// A source of eight bytes that is cut at 3 and at 0 bytes, and whose second read fails.
+fn cut_source(alloc: Global) -> Result<MemorySource, Fail> {
     let bytes = Vec::from_slice(alloc, b"abcdefgh")?;
     let cuts = Vec::from_slice(alloc, &[3, 0])?;
-    let mut source = MemorySource::new(bytes, cuts, Vec::from_slice(alloc, &[2])?);
-    let mut buffer = [0; 4];
-    for size in [Ok(3), Err(Failed), Ok(1), Ok(3), Ok(1), Ok(0), Ok(0)] {
-        assert_eq!(rt; source.read(&mut buffer), size);
-    }
-    let mut whole = PlainSource::new(Vec::from_slice(alloc, b"abcdef")?);
-    for size in [Ok(4), Ok(2), Ok(0)] {
-        assert_eq!(rt; whole.read(&mut buffer), size);
-    }
+    let failing = Vec::from_slice(alloc, &[2])?;
+    Ok(MemorySource::new(bytes, cuts, failing))
+}
+
+#[test]
+fn cuts_go_round_and_listed_reads_fail(rt: HostRuntime) -> Result<(), Fail> {
+    let mut source = cut_source(rt.alloc())?;
+    let sizes = [Ok(3), Err(Failed), Ok(1), Ok(3), Ok(1), Ok(0), Ok(0)];
+    reads(&rt, &mut source, &sizes);
     Ok(())
 }
 
 #[test]
+fn a_plain_source_gives_all(rt: HostRuntime) -> Result<(), Fail> {
+    let mut whole = PlainSource::new(Vec::from_slice(rt.alloc(), b"abcdef")?);
+    reads(&rt, &mut whole, &[Ok(4), Ok(2), Ok(0)]);
+    Ok(())
+}
+
+/// A sink with room for five bytes, whose second write fails.
+fn small_sink(alloc: Global) -> Result<MemorySink, Fail> {
+    let failing = Vec::from_slice(alloc, &[2])?;
+    Ok(MemorySink::new(alloc, 5, failing)?)
+}
+
+#[test]
 fn sinks_keep_what_was_taken(rt: HostRuntime) -> Result<(), Fail> {
-    let alloc = rt.alloc();
-    let mut sink = MemorySink::new(alloc, 5, Vec::from_slice(alloc, &[2])?)?;
+    let mut sink = small_sink(rt.alloc())?;
     assert_eq!(rt; put_all(&mut sink, b"abc"), Ok(()));
     assert_eq!(rt; sink.write(b"de"), Err(Failed));
     assert_eq!(rt; put_all(&mut sink, b"defg"), Err(Failed));
     assert_eq!(rt; sink.write(b""), Ok(0));
     assert_eq!(rt; sink.done(), Ok(()));
     assert_eq!(rt; sink.bytes(), b"abcde".as_slice());
+    Ok(())
+}
+
+#[test]
+fn a_count_is_kept(rt: HostRuntime) {
     let mut count = CountSink::new();
     assert_eq!(rt; put_all(&mut count, b"abc"), Ok(()));
     assert_eq!(rt; put_all(&mut count, b"de"), Ok(()));
     assert_eq!(rt; count.count(), 5);
-    Ok(())
 }

@@ -1,5 +1,5 @@
 use Rattle.std.proofs.Common.{◌≡◌, ◌+◌, length, None, IsSome}
-use Rattle.pn_tree.proofs.tests.deepest.Given as goal
+use Rattle.pn_base_tests.proofs.trees.build_deepest.Given as goal
 
 abbrev pub invariant-loop-offset : goal.invariant-loop-offset
 invariant-loop-offset l = record {

@@ -1,22 +1,33 @@
-ghost use Rattle.std.specs.Prelude.{◌<◌, ◌≤◌};
+ghost use Rattle.std.specs.Prelude.{◌≡◌, ◌<◌, ◌≤◌, IsSome, OnOk};
+ghost use Rattle.pn_tree.specs.Building.{nothing_built};
 ghost use Rattle.pn_tree.specs.Depth.{depth_of};
 ghost use Rattle.pn_tree.specs.Views.{element_of, IsShallower};
 
-use crate::{Builder, Kid, Tree, View, put_tree, text_length};
 use pn_outside::MemorySink;
+use pn_tree::{Builder, Kid, Tree, View, put_tree, text_length};
 use std::alloc::{AllocError, Global};
 use std::process::Abort;
 use std::test::Fail;
 
-/// The text of a tree is the declaration, this text of its root, and LF; so is that of its copy.
-fn is_written(rt: &impl Abort, alloc: Global, tree: &Tree, root: &str) -> Result<(), Fail> {
-    let mut want = String::from_str(alloc, "<?xml version=\"1.0\" encoding=\"UTF-8\"?>\n")?;
-    want.push_str(root)?;
-    want.push_str("\n")?;
-    has_text(rt, alloc, tree, want.as_str())?;
+fn push_document(text: &mut String, root: &str) -> Result<(), AllocError> {
+    text.push_str("<?xml version=\"1.0\" encoding=\"UTF-8\"?>\n")?;
+    text.push_str(root)?;
+    text.push_str("\n")
+}
+
+/// The declaration, this text of a root, and LF.
+fn document(alloc: Global, root: &str) -> Result<String, AllocError> {
+    let mut text = String::new(alloc);
+    push_document(&mut text, root)?;
+    Ok(text)
+}
+
+/// The text of a tree is this; so is that of its copy.
+fn is_written(rt: &impl Abort, alloc: Global, tree: &Tree, want: &str) -> Result<(), Fail> {
+    has_text(rt, alloc, tree, want)?;
     let copied = tree.root().copy(alloc)?;
     assert_eq!(rt; copied.root().at(), tree.root().at());
-    has_text(rt, alloc, &copied, want.as_str())
+    has_text(rt, alloc, &copied, want)
 }
 
 fn has_text(rt: &impl Abort, alloc: Global, tree: &Tree, want: &str) -> Result<(), Fail> {
@@ -27,41 +38,75 @@ fn has_text(rt: &impl Abort, alloc: Global, tree: &Tree, want: &str) -> Result<(
     Ok(())
 }
 
-fn empty(alloc: Global) -> Result<Tree, AllocError> {
-    let mut builder = Builder::new(alloc);
+fn build_empty(builder: &mut Builder) -> Result<(), AllocError>
+    requires { builder.old ≡ nothing_built }
+    ensures { OnOk result (IsSome builder.new.root) }
+{
     builder.begin("a", 0)?;
     builder.end();
+    Ok(())
+}
+
+fn empty(alloc: Global) -> Result<Tree, AllocError> {
+    let mut builder = Builder::new(alloc);
+    build_empty(&mut builder)?;
     Ok(builder.finish())
+}
+
+fn build_text_escapes(builder: &mut Builder) -> Result<(), AllocError>
+    requires { builder.old ≡ nothing_built }
+    ensures { OnOk result (IsSome builder.new.root) }
+{
+    builder.begin("a", 1)?;
+    builder.text("&b<\r\n\t>\"'")?;
+    builder.end();
+    Ok(())
 }
 
 fn text_escapes(alloc: Global) -> Result<Tree, AllocError> {
     let mut builder = Builder::new(alloc);
-    builder.begin("a", 1)?;
-    builder.text("&b<\r\n\t>\"'")?;
-    builder.end();
+    build_text_escapes(&mut builder)?;
     Ok(builder.finish())
 }
 
-fn value_escapes(alloc: Global) -> Result<Tree, AllocError> {
-    let mut builder = Builder::new(alloc);
+fn build_value_escapes(builder: &mut Builder) -> Result<(), AllocError>
+    requires { builder.old ≡ nothing_built }
+    ensures { OnOk result (IsSome builder.new.root) }
+{
     builder.begin("x:k", 2)?;
     builder.attr("v", "1<2&\r\n\t>\"'")?;
     builder.attr("a", "")?;
     builder.end();
+    Ok(())
+}
+
+fn value_escapes(alloc: Global) -> Result<Tree, AllocError> {
+    let mut builder = Builder::new(alloc);
+    build_value_escapes(&mut builder)?;
     Ok(builder.finish())
 }
 
-fn past_ascii(alloc: Global) -> Result<Tree, AllocError> {
-    let mut builder = Builder::new(alloc);
+fn build_past_ascii(builder: &mut Builder) -> Result<(), AllocError>
+    requires { builder.old ≡ nothing_built }
+    ensures { OnOk result (IsSome builder.new.root) }
+{
     builder.begin("é", 3)?;
     builder.attr("_1", "\u{10FFFF}")?;
     builder.text("€")?;
     builder.end();
+    Ok(())
+}
+
+fn past_ascii(alloc: Global) -> Result<Tree, AllocError> {
+    let mut builder = Builder::new(alloc);
+    build_past_ascii(&mut builder)?;
     Ok(builder.finish())
 }
 
-fn nested(alloc: Global) -> Result<Tree, AllocError> {
-    let mut builder = Builder::new(alloc);
+fn build_nested(builder: &mut Builder) -> Result<(), AllocError>
+    requires { builder.old ≡ nothing_built }
+    ensures { OnOk result (IsSome builder.new.root) }
+{
     builder.begin("a", 4)?;
     builder.attr("one", "1")?;
     builder.attr("two", "2")?;
@@ -74,10 +119,22 @@ fn nested(alloc: Global) -> Result<Tree, AllocError> {
     builder.end();
     builder.text("v")?;
     builder.end();
+    Ok(())
+}
+
+fn nested(alloc: Global) -> Result<Tree, AllocError> {
+    let mut builder = Builder::new(alloc);
+    build_nested(&mut builder)?;
     Ok(builder.finish())
 }
 
-/// The tree was made, and is written as this text.
+/// The tree's root is written as this text.
+fn is_root(rt: &impl Abort, alloc: Global, tree: &Tree, root: &str) -> Result<(), Fail> {
+    let want = document(alloc, root)?;
+    is_written(rt, alloc, tree, want.as_str())
+}
+
+/// The tree was made, and its root is written as this text.
 fn row(
     rt: &impl Abort,
     alloc: Global,
@@ -85,7 +142,7 @@ fn row(
     root: &str,
 ) -> Result<(), Fail> {
     let tree = made?;
-    is_written(rt, alloc, &tree, root)
+    is_root(rt, alloc, &tree, root)
 }
 
 fn escapes(rt: &impl Abort, alloc: Global) -> Result<(), Fail> {
@@ -116,14 +173,23 @@ fn small_trees_have_their_text(rt: HostRuntime) -> Result<(), Fail> {
     shapes(&rt, rt.alloc())
 }
 
+fn build_around(builder: &mut Builder, part: View<'_>) -> Result<(), AllocError>
+    requires start { builder.old ≡ nothing_built }
+    requires depth { depth_of (element_of part) < 256 }
+    ensures { OnOk result (IsSome builder.new.root) }
+{
+    builder.begin("r", 0)?;
+    builder.place(part)?;
+    builder.end();
+    Ok(())
+}
+
 /// A tree of this element alone, inside another.
 fn placed(alloc: Global, part: View<'_>) -> Result<Tree, AllocError>
     requires { depth_of (element_of part) < 256 }
 {
     let mut builder = Builder::new(alloc);
-    builder.begin("r", 0)?;
-    builder.place(part)?;
-    builder.end();
+    build_around(&mut builder, part)?;
     Ok(builder.finish())
 }
 
@@ -168,38 +234,56 @@ fn shows_kids(rt: &impl Abort, alloc: Global, root: View<'_>) -> Result<(), Fail
     shows_element(rt, alloc, root.kid(1))
 }
 
-#[test]
-fn a_view_shows_its_element(rt: HostRuntime) -> Result<(), Fail> {
-    let alloc = rt.alloc();
-    let tree = nested(alloc)?;
+fn shows_all(rt: &impl Abort, alloc: Global, tree: &Tree) -> Result<(), Fail> {
     let root = tree.root();
-    shows_names(&rt, root);
-    shows_attrs(&rt, root);
-    finds_attrs(&rt, root);
-    shows_kids(&rt, alloc, root)
+    shows_names(rt, root);
+    shows_attrs(rt, root);
+    finds_attrs(rt, root);
+    shows_kids(rt, alloc, root)
 }
 
-/// As many elements in one another as a tree may have.
-fn deepest(alloc: Global) -> Result<Tree, AllocError> {
-    let mut builder = Builder::new(alloc);
+#[test]
+fn a_view_shows_its_element(rt: HostRuntime) -> Result<(), Fail> {
+    let tree = nested(rt.alloc())?;
+    shows_all(&rt, rt.alloc(), &tree)
+}
+
+fn build_deepest(builder: &mut Builder) -> Result<(), AllocError>
+    requires { builder.old ≡ nothing_built }
+    ensures { OnOk result (IsSome builder.new.root) }
+{
     for offset in 0..256u64 {
         builder.begin("a", offset)?;
     }
     for _ended in 0..256u64 {
         builder.end();
     }
+    Ok(())
+}
+
+/// As many elements in one another as a tree may have.
+fn deepest(alloc: Global) -> Result<Tree, AllocError> {
+    let mut builder = Builder::new(alloc);
+    build_deepest(&mut builder)?;
     Ok(builder.finish())
+}
+
+fn push_times(text: &mut String, count: u32, piece: &str) -> Result<(), AllocError> {
+    for _ in 0..count {
+        text.push_str(piece)?;
+    }
+    Ok(())
+}
+
+fn push_deepest(text: &mut String) -> Result<(), AllocError> {
+    push_times(text, 255, "<a>")?;
+    text.push_str("<a/>")?;
+    push_times(text, 255, "</a>")
 }
 
 fn deepest_text(alloc: Global) -> Result<String, AllocError> {
     let mut root = String::new(alloc);
-    for _ in 0..255 {
-        root.push_str("<a>")?;
-    }
-    root.push_str("<a/>")?;
-    for _ in 0..255 {
-        root.push_str("</a>")?;
-    }
+    push_deepest(&mut root)?;
     Ok(root)
 }
 
