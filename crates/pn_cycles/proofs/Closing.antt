@@ -6,7 +6,7 @@ use Rattle.pn_cycles.specs.declared.search.Mark.{Mark}
 use Rattle.pn_cycles.specs.declared.search.Mark.TheVariants.{New, Open, Done}
 use Rattle.pn_cycles.specs.declared.search.Group.{Group}
 use Rattle.pn_cycles.specs.Graphs.{IsEdge, Leads, by_edge, by_path}
-use Rattle.pn_cycles.specs.Searches.{mark_of, group_at, IsKept, is_done, is_open, is_pending, is_due, IsGroup, IsPath, IsUnderWay, IsFinish}
+use Rattle.pn_cycles.specs.Searches.{mark_of, group_at, IsAccounted, is_done, is_open, is_pending, is_due, IsGroup, IsPath, IsUnderWay, IsFinish}
 use Rattle.pn_cycles.proofs.Paths.{same_path}
 use Rattle.pn_cycles.proofs.Working.{count_same}
 
@@ -105,11 +105,11 @@ module _ (edges : List (List ℕ)) (marks marks' : List Mark) (stack stack' pend
         go (outside same below) = sym same ∙ m
         go (inside at low high e was now) = absurd cc
 
-    keep : (g : Group) (end : ℕ) → IsKept marks pending None g end → IsKept marks' pending None g end
+    keep : (g : Group) (end : ℕ) → IsAccounted marks pending None g end → IsAccounted marks' pending None g end
     keep g end (is_done at m) = is_done at (still_done end at m)
     keep g end (is_open at m a b) = go (cases_lt at group.start)
       where
-        go : (at < group.start) ⊎ (group.start ≤ at) → IsKept marks' pending None g end
+        go : (at < group.start) ⊎ (group.start ≤ at) → IsAccounted marks' pending None g end
         go (inl below) = is_open at (still_open end at m below) a b
         go (inr low) = is_done (length nodes + (at - group.start)) (now_done end at m low)
     keep g end (is_pending j a b e) = is_pending j a b e
@@ -123,7 +123,7 @@ module _ (edges : List (List ℕ)) (marks marks' : List Mark) (stack stack' pend
         cyclic_is true e q h above = e
         cyclic_is false e q h above = absurd (omega (arith, top.0.single e, above e))
 
-        go : IsKept marks pending None group end → ((place : ℕ) × (mark_of marks end ≡ Done place)) ⊎ ((q : ℕ) × (group.start ≤ q) × (group.cyclic ≡ true) × (mark_of marks end ≡ Open q))
+        go : IsAccounted marks pending None group end → ((place : ℕ) × (mark_of marks end ≡ Done place)) ⊎ ((q : ℕ) × (group.start ≤ q) × (group.cyclic ≡ true) × (mark_of marks end ≡ Open q))
         go (is_done at m) = inl (at, m)
         go (is_open q m a b) = inr (q, a, cyclic_is group.cyclic refl q (is.stacked_at end q m).0 b, m)
         go (is_pending j a b e) = absurd (omega (arith, edges_is))

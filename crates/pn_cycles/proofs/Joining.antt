@@ -6,7 +6,7 @@ use Rattle.pn_cycles.specs.declared.search.Mark.{Mark}
 use Rattle.pn_cycles.specs.declared.search.Mark.TheVariants.{Open}
 use Rattle.pn_cycles.specs.declared.search.Group.{Group}
 use Rattle.pn_cycles.specs.Graphs.{IsEdge, Leads}
-use Rattle.pn_cycles.specs.Searches.{mark_of, group_at, IsKept, is_done, is_open, is_pending, is_due, IsGroup, IsPath, IsUnderWay, LeadTo}
+use Rattle.pn_cycles.specs.Searches.{mark_of, group_at, IsAccounted, is_done, is_open, is_pending, is_due, IsGroup, IsPath, IsUnderWay, LeadTo}
 use Rattle.pn_cycles.proofs.Ways.{leads_on}
 use Rattle.pn_cycles.proofs.Paths.{same_path}
 
@@ -24,10 +24,10 @@ record Together (edges : List (List ℕ)) (due : Option ℕ) (marks : List Mark)
   is_group : IsGroup edges due marks stack pending group nodes_end edges_end
   before : IsPath edges due marks stack pending path at group.start group.edges
   sources : (j : ℕ) → group.edges ≤ j → j < m → (a : ℕ) × (group.start ≤ a) × (a < n) × IsEdge edges (get_or stack a 0) (get_or pending j 0)
-  kept : (a : ℕ) → group.start ≤ a → a < n → (end : ℕ) → IsEdge edges (get_or stack a 0) end → IsKept marks pending None (joined_group group) end
+  kept : (a : ℕ) → group.start ≤ a → a < n → (end : ℕ) → IsEdge edges (get_or stack a 0) end → IsAccounted marks pending None (joined_group group) end
 
 module _ (edges : List (List ℕ)) (node place : ℕ) (marks : List Mark) (stack pending : List ℕ) (path : List Group) (at_place : mark_of marks node ≡ Open place) where
-  keep_joined : (group h : Group) (end : ℕ) → group.start ≤ place → group.start ≤ h.start → group.edges ≤ h.edges → IsKept marks pending (Some node) h end → IsKept marks pending None (joined_group group) end
+  keep_joined : (group h : Group) (end : ℕ) → group.start ≤ place → group.start ≤ h.start → group.edges ≤ h.edges → IsAccounted marks pending (Some node) h end → IsAccounted marks pending None (joined_group group) end
   keep_joined group h end low starts ends (is_done at m) = is_done at m
   keep_joined group h end low starts ends (is_open at m a b) = is_open at m (omega arith) (λ no. absurd cc)
   keep_joined group h end low starts ends (is_pending j a b e) = is_pending j (omega arith) b e
@@ -35,7 +35,7 @@ module _ (edges : List (List ℕ)) (node place : ℕ) (marks : List Mark) (stack
       let same : node ≡ end = cc in
       is_open place (subst (λ x. mark_of marks x ≡ Open place) same at_place) low (λ no. absurd cc)
 
-  keep_before : (g : Group) (end : ℕ) → g.start < place → IsKept marks pending (Some node) g end → IsKept marks pending None g end
+  keep_before : (g : Group) (end : ℕ) → g.start < place → IsAccounted marks pending (Some node) g end → IsAccounted marks pending None g end
   keep_before g end low (is_done at m) = is_done at m
   keep_before g end low (is_open at m a b) = is_open at m a b
   keep_before g end low (is_pending j a b e) = is_pending j a b e
@@ -84,7 +84,7 @@ module _ (edges : List (List ℕ)) (node place : ℕ) (marks : List Mark) (stack
               let s = top.sources j above j_high in
               (s.0, omega (arith, s.1, r.is_group.some, r.nodes_within), s.2, s.3)
 
-          keep : Together edges (Some node) marks stack pending path (group_at path at) at place (group_at path count).start (group_at path count).edges → IsGroup edges (Some node) marks stack pending (group_at path count) n m → (a : ℕ) → (group_at path at).start ≤ a → a < n → (end : ℕ) → IsEdge edges (get_or stack a 0) end → (a < (group_at path count).start) ⊎ ((group_at path count).start ≤ a) → IsKept marks pending None (joined_group (group_at path at)) end
+          keep : Together edges (Some node) marks stack pending path (group_at path at) at place (group_at path count).start (group_at path count).edges → IsGroup edges (Some node) marks stack pending (group_at path count) n m → (a : ℕ) → (group_at path at).start ≤ a → a < n → (end : ℕ) → IsEdge edges (get_or stack a 0) end → (a < (group_at path count).start) ⊎ ((group_at path count).start ≤ a) → IsAccounted marks pending None (joined_group (group_at path at)) end
           keep r top a a_low a_high end edge (inl below) = r.kept a a_low below end edge
           keep r top a a_low a_high end edge (inr above) = keep_joined (group_at path at) (group_at path count) end low (omega (arith, r.is_group.some, r.nodes_within)) (omega (arith, r.is_group.within, r.edges_within)) (top.kept a above a_high end edge)
 

@@ -6,7 +6,7 @@ use Rattle.pn_cycles.specs.declared.search.Mark.{Mark}
 use Rattle.pn_cycles.specs.declared.search.Mark.TheVariants.{New, Open, Done}
 use Rattle.pn_cycles.specs.declared.search.Group.{Group}
 use Rattle.pn_cycles.specs.Graphs.{IsEdge, Leads}
-use Rattle.pn_cycles.specs.Searches.{mark_of, group_at, IsKept, is_done, is_open, is_pending, is_due, IsGroup, IsPath, IsUnderWay, LeadTo, new_count}
+use Rattle.pn_cycles.specs.Searches.{mark_of, group_at, IsAccounted, is_done, is_open, is_pending, is_due, IsGroup, IsPath, IsUnderWay, LeadTo, new_count}
 use Rattle.pn_cycles.proofs.Paths.{same_path}
 use Rattle.pn_cycles.proofs.Working.{count_opened}
 
@@ -64,7 +64,7 @@ module _ (edges : List (List ℕ)) (node : ℕ) (marks marks' : List Mark) (stac
       go (inl e) = let a = ap (mark_of marks') e in let b = marks_node in absurd cc
       go (inr ne) = sym (marks_same x ne) ∙ m
 
-  keep : (g : Group) (end : ℕ) → g.start < length stack → g.edges ≤ length pending → IsKept marks pending (Some node) g end → IsKept marks' pending' None g end
+  keep : (g : Group) (end : ℕ) → g.start < length stack → g.edges ≤ length pending → IsAccounted marks pending (Some node) g end → IsAccounted marks' pending' None g end
   keep g end low below (is_done at m) = is_done at (still_done end at m)
   keep g end low below (is_open at m a b) = is_open at (still_open end at m) a b
   keep g end low below (is_pending j a b e) = is_pending j a (omega (arith, pending_length)) (pending_same j b ∙ e)

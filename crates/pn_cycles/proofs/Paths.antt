@@ -3,11 +3,11 @@ use Rattle.std.proofs.Common.{◌≡◌, ℕ, zero, suc, ◌<◌, ◌≤◌, Lis
 use Rattle.pn_cycles.specs.declared.search.Mark.{Mark}
 use Rattle.pn_cycles.specs.declared.search.Group.{Group}
 use Rattle.pn_cycles.specs.Graphs.{IsEdge, Leads}
-use Rattle.pn_cycles.specs.Searches.{group_at, IsKept, IsGroup, IsPath}
+use Rattle.pn_cycles.specs.Searches.{group_at, IsAccounted, IsGroup, IsPath}
 
 module _ (edges : List (List ℕ)) (due due' : Option ℕ) (marks marks' : List Mark) (stack stack' pending pending' : List ℕ) where
   -- a group stays one where its nodes stay where they are, and its edges, maybe without the last ones
-  pub same_group : (group : Group) (n m m' : ℕ) → ((a : ℕ) → a < n → get_or stack' a 0 ≡ get_or stack a 0) → ((j : ℕ) → j < m' → get_or pending' j 0 ≡ get_or pending j 0) → group.edges ≤ m' → m' ≤ m → ((end : ℕ) → IsKept marks pending due group end → IsKept marks' pending' due' group end) → IsGroup edges due marks stack pending group n m → IsGroup edges due' marks' stack' pending' group n m'
+  pub same_group : (group : Group) (n m m' : ℕ) → ((a : ℕ) → a < n → get_or stack' a 0 ≡ get_or stack a 0) → ((j : ℕ) → j < m' → get_or pending' j 0 ≡ get_or pending j 0) → group.edges ≤ m' → m' ≤ m → ((end : ℕ) → IsAccounted marks pending due group end → IsAccounted marks' pending' due' group end) → IsGroup edges due marks stack pending group n m → IsGroup edges due' marks' stack' pending' group n m'
   same_group group n m m' nodes ends low high keep is = record {
     some = is.some;
     within = low;
@@ -19,7 +19,7 @@ module _ (edges : List (List ℕ)) (due due' : Option ℕ) (marks marks' : List 
     kept = λ a a_low a_high end edge. keep end (is.kept a a_low a_high end (subst (λ x. IsEdge edges x end) (nodes a a_high) edge));
   }
 
-  pub same_path : (path path' : List Group) (at n m : ℕ) → ((i : ℕ) → i < at → group_at path' i ≡ group_at path i) → ((a : ℕ) → a < n → get_or stack' a 0 ≡ get_or stack a 0) → ((j : ℕ) → j < m → get_or pending' j 0 ≡ get_or pending j 0) → ((group : Group) (end : ℕ) → group.start < n → group.edges ≤ m → IsKept marks pending due group end → IsKept marks' pending' due' group end) → IsPath edges due marks stack pending path at n m → IsPath edges due' marks' stack' pending' path' at n m
+  pub same_path : (path path' : List Group) (at n m : ℕ) → ((i : ℕ) → i < at → group_at path' i ≡ group_at path i) → ((a : ℕ) → a < n → get_or stack' a 0 ≡ get_or stack a 0) → ((j : ℕ) → j < m → get_or pending' j 0 ≡ get_or pending j 0) → ((group : Group) (end : ℕ) → group.start < n → group.edges ≤ m → IsAccounted marks pending due group end → IsAccounted marks' pending' due' group end) → IsPath edges due marks stack pending path at n m → IsPath edges due' marks' stack' pending' path' at n m
   same_path path path' zero n m groups nodes ends keep is = is
   same_path path path' (suc at) n m groups nodes ends keep is =
       let group = group_at path at in

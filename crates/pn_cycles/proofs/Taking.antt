@@ -6,13 +6,13 @@ use Rattle.pn_cycles.specs.declared.search.Mark.{Mark}
 use Rattle.pn_cycles.specs.declared.search.Mark.TheVariants.{Done}
 use Rattle.pn_cycles.specs.declared.search.Group.{Group}
 use Rattle.pn_cycles.specs.Graphs.{IsEdge, Leads, by_edge}
-use Rattle.pn_cycles.specs.Searches.{mark_of, group_at, IsKept, is_done, is_open, is_pending, is_due, IsGroup, IsPath, IsUnderWay, LeadTo}
+use Rattle.pn_cycles.specs.Searches.{mark_of, group_at, IsAccounted, is_done, is_open, is_pending, is_due, IsGroup, IsPath, IsUnderWay, LeadTo}
 use Rattle.pn_cycles.proofs.Ways.{leads_to_edge}
 use Rattle.pn_cycles.proofs.Paths.{same_group, same_path}
 
 -- another node is due
 module _ (edges : List (List ℕ)) (due due' : Option ℕ) (marks : List Mark) (stack pending : List ℕ) (path : List Group) (nodes : List ℕ) (cyclic : List Bool) (is : IsUnderWay edges due marks stack pending path nodes cyclic) where
-  due_changes : ((group : Group) (end : ℕ) → IsKept marks pending due group end → IsKept marks pending due' group end) → IsUnderWay edges due' marks stack pending path nodes cyclic
+  due_changes : ((group : Group) (end : ℕ) → IsAccounted marks pending due group end → IsAccounted marks pending due' group end) → IsUnderWay edges due' marks stack pending path nodes cyclic
   due_changes keep = record {
     marked = is.marked;
     told = is.told;
@@ -31,7 +31,7 @@ module _ (edges : List (List ℕ)) (due due' : Option ℕ) (marks : List Mark) (
 pub due_is_done : (edges : List (List ℕ)) (node at : ℕ) (marks : List Mark) (stack pending : List ℕ) (path : List Group) (nodes : List ℕ) (cyclic : List Bool) → mark_of marks node ≡ Done at → IsUnderWay edges (Some node) marks stack pending path nodes cyclic → IsUnderWay edges None marks stack pending path nodes cyclic
 due_is_done edges node at marks stack pending path nodes cyclic done is = due_changes edges (Some node) None marks stack pending path nodes cyclic is keep
   where
-    keep : (group : Group) (end : ℕ) → IsKept marks pending (Some node) group end → IsKept marks pending None group end
+    keep : (group : Group) (end : ℕ) → IsAccounted marks pending (Some node) group end → IsAccounted marks pending None group end
     keep group end (is_done i m) = is_done i m
     keep group end (is_open i m a b) = is_open i m a b
     keep group end (is_pending j a b e) = is_pending j a b e
@@ -41,7 +41,7 @@ due_is_done edges node at marks stack pending path nodes cyclic done is = due_ch
 pub due_at_will : (edges : List (List ℕ)) (node : ℕ) (marks : List Mark) (stack pending : List ℕ) (path : List Group) (nodes : List ℕ) (cyclic : List Bool) → IsUnderWay edges None marks stack pending path nodes cyclic → IsUnderWay edges (Some node) marks stack pending path nodes cyclic
 due_at_will edges node marks stack pending path nodes cyclic is = due_changes edges None (Some node) marks stack pending path nodes cyclic is keep
   where
-    keep : (group : Group) (end : ℕ) → IsKept marks pending None group end → IsKept marks pending (Some node) group end
+    keep : (group : Group) (end : ℕ) → IsAccounted marks pending None group end → IsAccounted marks pending (Some node) group end
     keep group end (is_done i m) = is_done i m
     keep group end (is_open i m a b) = is_open i m a b
     keep group end (is_pending j a b e) = is_pending j a b e
@@ -66,12 +66,12 @@ module _ (edges : List (List ℕ)) (node : ℕ) (marks : List Mark) (stack pendi
   pending_last : get_or pending (length front) 0 ≡ node
   pending_last = ap (λ xs. get_or xs (length front) 0) pending_is ∙ get_or_push front node 0 (length front) refl
 
-  keep : (g : Group) (end : ℕ) → IsKept marks pending None g end → IsKept marks front (Some node) g end
+  keep : (g : Group) (end : ℕ) → IsAccounted marks pending None g end → IsAccounted marks front (Some node) g end
   keep g end (is_done i m) = is_done i m
   keep g end (is_open i m a b) = is_open i m a b
   keep g end (is_pending j a b e) = go (cases_lt j (length front))
     where
-      go : (j < length front) ⊎ (length front ≤ j) → IsKept marks front (Some node) g end
+      go : (j < length front) ⊎ (length front ≤ j) → IsAccounted marks front (Some node) g end
       go (inl low) = is_pending j a low (pending_same j low ∙ e)
       go (inr high) =
           let same : j ≡ length front = omega (arith, pending_length) in

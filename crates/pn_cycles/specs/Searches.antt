@@ -19,11 +19,11 @@ group_at path at = slice_index_or path at (record { start = 0; edges = 0; cyclic
 -- where an edge out of a group leads: to a node that is done, to an open node at the group's start or
 -- behind it (behind it alone where nothing leads back so far), to a node that is still to be looked at,
 -- or to the one that is due now
-pub data IsKept (marks : List Mark) (pending : List ℕ) (due : Option ℕ) (group : Group) (end : ℕ) : Type 0 where
-  is_done : (place : ℕ) → mark_of marks end ≡ Done place → IsKept marks pending due group end
-  is_open : (place : ℕ) → mark_of marks end ≡ Open place → group.start ≤ place → (group.cyclic ≡ false → group.start < place) → IsKept marks pending due group end
-  is_pending : (at : ℕ) → group.edges ≤ at → at < length pending → slice_index pending at ≡ end → IsKept marks pending due group end
-  is_due : due ≡ Some end → IsKept marks pending due group end
+pub data IsAccounted (marks : List Mark) (pending : List ℕ) (due : Option ℕ) (group : Group) (end : ℕ) : Type 0 where
+  is_done : (place : ℕ) → mark_of marks end ≡ Done place → IsAccounted marks pending due group end
+  is_open : (place : ℕ) → mark_of marks end ≡ Open place → group.start ≤ place → (group.cyclic ≡ false → group.start < place) → IsAccounted marks pending due group end
+  is_pending : (at : ℕ) → group.edges ≤ at → at < length pending → slice_index pending at ≡ end → IsAccounted marks pending due group end
+  is_due : due ≡ Some end → IsAccounted marks pending due group end
 
 module _ (edges : List (List ℕ)) (due : Option ℕ) (marks : List Mark) (stack pending : List ℕ) where
   -- a group whose nodes end before a place of the stack, and whose edges before one of those to be looked at
@@ -33,7 +33,7 @@ module _ (edges : List (List ℕ)) (due : Option ℕ) (marks : List Mark) (stack
     pub strong : group.cyclic ≡ true → (a b : ℕ) → group.start ≤ a → a < nodes_end → group.start ≤ b → b < nodes_end → Leads edges (slice_index stack a) (slice_index stack b)
     pub single : group.cyclic ≡ false → nodes_end ≡ suc group.start
     pub sources : (at : ℕ) → group.edges ≤ at → at < edges_end → (a : ℕ) × (group.start ≤ a) × (a < nodes_end) × IsEdge edges (slice_index stack a) (slice_index pending at)
-    pub kept : (a : ℕ) → group.start ≤ a → a < nodes_end → (end : ℕ) → IsEdge edges (slice_index stack a) end → IsKept marks pending due group end
+    pub kept : (a : ℕ) → group.start ≤ a → a < nodes_end → (end : ℕ) → IsEdge edges (slice_index stack a) end → IsAccounted marks pending due group end
 
   -- the groups before a place of the path, the first of which begins at the bottom
   abbrev pub IsPath : List Group → ℕ → ℕ → ℕ → Type 0

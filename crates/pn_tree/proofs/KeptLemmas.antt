@@ -3,15 +3,15 @@ use Rattle.std.proofs.Common.{◌≡◌, ℕ, suc, ◌+◌, ◌-◌, ◌<◌, �
 use Rattle.pn_text.specs.Characters.{is_name}
 use Rattle.pn_tree.specs.Elements.{IsTree}
 use Rattle.pn_tree.specs.Building.{Building, innermost, with_kid}
-use Rattle.pn_tree.specs.Frames.{so_far, stacked, all_open, AllHaveRoom, are_open, IsKept}
+use Rattle.pn_tree.specs.Frames.{so_far, stacked, all_open, AllHaveRoom, are_open, IsBuilder}
 use Rattle.pn_tree.specs.Depth.{depth_of}
 use Rattle.pn_tree.specs.Endings.{IsEnded}
 use Rattle.pn_tree.specs.declared.element.Element.{Element}
 use Rattle.pn_tree.specs.declared.element.Child.TheVariants as children
 use Rattle.pn_tree.specs.declared.frame.Frame.{Frame}
-use Rattle.pn_tree.specs.declared.stack.Ended.TheVariants.{Root, Within}
+use Rattle.pn_tree.specs.declared.stack.Ended.TheVariants.{Within}
 use Rattle.pn_tree.proofs.TreeLemmas.{Parts}
-use Rattle.pn_tree.proofs.OpenLemmas.{open_changed, open_begun, open_placed, open_closed, open_root}
+use Rattle.pn_tree.proofs.OpenLemmas.{open_changed, open_begun, open_placed, open_closed}
 
 -- what holds of the innermost open element holds of the frame
 pub innermost_is : (b : Building) (root : Option Element) (inner : Option Frame) (outer : List Frame) (frame : Frame)
@@ -19,13 +19,13 @@ pub innermost_is : (b : Building) (root : Option Element) (inner : Option Frame)
 innermost_is b root inner outer frame view_is is P h =
     subst (λ i. IfSome (innermost (record { root = root; open_elements = all_open i outer })) P) is (subst (λ v. IfSome (innermost v) P) (sym view_is) h)
 
-inner_open : (root : Option Element) (inner : Option Frame) (outer : List Frame) (frame : Frame) → inner ≡ Some frame → IsKept root inner outer
+inner_open : (root : Option Element) (inner : Option Frame) (outer : List Frame) (frame : Frame) → inner ≡ Some frame → IsBuilder root inner outer
     → are_open (so_far frame ∷ stacked outer []) ≡ true
 inner_open root inner outer frame is kept = subst (λ i. are_open (all_open i outer) ≡ true) is kept.fits
 
 pub kept_change : (change : Element → Element) (root : Option Element) (inner : Option Frame) (outer : List Frame) (frame made : Frame) → inner ≡ Some frame
-    → IsKept root inner outer → so_far made ≡ change (so_far frame)
-    → ((k : ℕ) → 256 - length (stacked outer []) ≡ suc k → Parts k (so_far frame) → Parts k (change (so_far frame))) → IsKept root (Some made) outer
+    → IsBuilder root inner outer → so_far made ≡ change (so_far frame)
+    → ((k : ℕ) → 256 - length (stacked outer []) ≡ suc k → Parts k (so_far frame) → Parts k (change (so_far frame))) → IsBuilder root (Some made) outer
 kept_change change root inner outer frame made is kept same keeps = record {
   room = kept.room;
   fits =
@@ -34,9 +34,9 @@ kept_change change root inner outer frame made is kept same keeps = record {
   is_tree = kept.is_tree;
 }
 
-pub kept_begun : (root : Option Element) (inner : Option Frame) (outer left : List Frame) (made : Frame) (name : List ℕ) (at : ℕ) → IsKept root inner outer
+pub kept_begun : (root : Option Element) (inner : Option Frame) (outer left : List Frame) (made : Frame) (name : List ℕ) (at : ℕ) → IsBuilder root inner outer
     → stacked left [] ≡ all_open inner outer → AllHaveRoom left → so_far made ≡ record { name = name; at = at; attrs = []; kids = [] } → is_name name ≡ true
-    → length (all_open inner outer) < 256 → IsKept root (Some made) left
+    → length (all_open inner outer) < 256 → IsBuilder root (Some made) left
 kept_begun root inner outer left made name at kept open_is room same n lt =
     let e : Element = record { name = name; at = at; attrs = []; kids = [] } in
     record {
@@ -53,30 +53,18 @@ within_open e parent (p ∷ ps) left h ended =
     subst (λ x. are_open (x ∷ left) ≡ true) (sym ended.0)
     (subst (λ l. are_open (with_kid (children.Element e) p ∷ l) ≡ true) (sym ended.1) (open_closed e p ps h))
 
-pub kept_within : (root : Option Element) (inner : Option Frame) (outer left : List Frame) (frame parent : Frame) → inner ≡ Some frame → IsKept root inner outer
-    → IsEnded (so_far frame) (stacked outer []) (Within parent) (stacked left []) → AllHaveRoom left → IsKept root (Some parent) left
+pub kept_within : (root : Option Element) (inner : Option Frame) (outer left : List Frame) (frame parent : Frame) → inner ≡ Some frame → IsBuilder root inner outer
+    → IsEnded (so_far frame) (stacked outer []) (Within parent) (stacked left []) → AllHaveRoom left → IsBuilder root (Some parent) left
 kept_within root inner outer left frame parent is kept ended room = record {
   room = room;
   fits = within_open (so_far frame) parent (stacked outer []) (stacked left []) (inner_open root inner outer frame is kept) ended;
   is_tree = kept.is_tree;
 }
 
-root_tree : (e r : Element) (es left : List Element) → are_open (e ∷ es) ≡ true → IsEnded e es (Root r) left → IsTree r
-root_tree e r [] left h ended = subst IsTree (sym ended.0) (open_root e h)
-root_tree e r (p ∷ ps) left h ended = absurd ended
-
-pub kept_root : (root : Option Element) (inner : Option Frame) (outer left : List Frame) (frame : Frame) (r : Element) → inner ≡ Some frame → IsKept root inner outer
-    → IsEnded (so_far frame) (stacked outer []) (Root r) (stacked left []) → AllHaveRoom left → IsKept (Some r) None left
-kept_root root inner outer left frame r is kept ended room = record {
-  room = room;
-  fits = refl;
-  is_tree = root_tree (so_far frame) r (stacked outer []) (stacked left []) (inner_open root inner outer frame is kept) ended;
-}
-
 -- a part was placed in the innermost open element
 pub kept_placed : (b : Building) (root : Option Element) (inner : Option Frame) (outer : List Frame) (frame made : Frame) (kid part : Element)
-    → record { root = root; open_elements = all_open inner outer } ≡ b → inner ≡ Some frame → IsKept root inner outer → kid ≡ part → IsTree part
-    → length b.open_elements + depth_of part ≤ 256 → so_far made ≡ with_kid (children.Element kid) (so_far frame) → IsKept root (Some made) outer
+    → record { root = root; open_elements = all_open inner outer } ≡ b → inner ≡ Some frame → IsBuilder root inner outer → kid ≡ part → IsTree part
+    → length b.open_elements + depth_of part ≤ 256 → so_far made ≡ with_kid (children.Element kid) (so_far frame) → IsBuilder root (Some made) outer
 kept_placed b root inner outer frame made kid part view_is is kept copied tree depth same =
     let at_entry : length (all_open inner outer) + depth_of part ≤ 256 = subst (λ (v : Building). length v.open_elements + depth_of part ≤ 256) (sym view_is) depth in
     let here : length (so_far frame ∷ stacked outer []) + depth_of part ≤ 256 = subst (λ i. length (all_open i outer) + depth_of part ≤ 256) is at_entry in

@@ -5,7 +5,6 @@ use Rattle.std.specs.Option.{is_none}
 use Rattle.std.specs.Str.{bytes_eq}
 use Rattle.std.proofs.lemmas.Bool.{false≢true}
 use Rattle.std.proofs.lemmas.List.Folds.{list_all-append}
-use Rattle.std.proofs.lemmas.Slice.Eq.{bytes_eq-Decides}
 use Rattle.pn_text.specs.Characters.{is_name, is_text}
 use Rattle.pn_tree.specs.Elements.{attr_value, are_attrs, is_text_kid, is_text_layer, begins_with_text, are_apart, is_kid, is_kid_layer, is_kid_text, is_element, IsTree}
 use Rattle.pn_tree.specs.Depth.{depth_of}
@@ -22,29 +21,19 @@ use Rattle.pn_tree.proofs.ElementLemmas.{is_text_kid-element, is_text_kid-text, 
 use Rattle.pn_text.proofs.TextLemmas.{is_text-append}
 use Rattle.pn_tree.proofs.TreeLemmas.{Parts, parts_of, of_parts, not_element-zero}
 use Rattle.pn_facts.proofs.Truths.{and_left, and_right, and_both}
+use Rattle.pn_facts.proofs.Options.{cond_none, none_from}
+use Rattle.pn_facts.proofs.Bytes.{bytes_differ}
 
 -- attributes
 
-chosen_none : {X : Type 0} (b : Bool) (x : X) (o : Option X) → cond b (Some x) o ≡ None → (b ≡ false) × (o ≡ None)
-chosen_none true x o h = absurd (cc)
-chosen_none false x o h = (refl, h)
-
 value_absent : (name : List ℕ) (a : Attr) (more : List Attr) → attr_value name (a ∷ more) ≡ None → (bytes_eq a.name name ≡ false) × (attr_value name more ≡ None)
-value_absent name a more h = chosen_none (bytes_eq a.name name) a.value (attr_value name more) h
+value_absent name a more h = cond_none (bytes_eq a.name name) a.value (attr_value name more) h
 
 value_push : (name : List ℕ) (given : List Attr) (a : Attr) → attr_value name given ≡ None → bytes_eq a.name name ≡ false → attr_value name (given ++ (a ∷ [])) ≡ None
 value_push name [] a h d = ap (λ b. cond b (Some a.value) None) d
 value_push name (x ∷ xs) a h d =
     let s = value_absent name x xs h in
     ap (λ b. cond b (Some x.value) (attr_value name (xs ++ (a ∷ [])))) s.0 ∙ value_push name xs a s.1 d
-
-bytes_differ : (x y : List ℕ) (b : Bool) → bytes_eq y x ≡ b → bytes_eq x y ≡ false → bytes_eq y x ≡ false
-bytes_differ x y true e h = absurd (false≢true (sym h ∙ (bytes_eq-Decides x y).1 (sym ((bytes_eq-Decides y x).0 e))))
-bytes_differ x y false e h = e
-
-none_of : {X : Type 0} (o : Option X) → is_none o ≡ true → o ≡ None
-none_of None h = refl
-none_of (Some x) h = absurd (false≢true h)
 
 are_attrs-push : (given : List Attr) (a : Attr) → are_attrs given ≡ true → is_name a.name ≡ true → is_text a.value ≡ true → attr_value a.name given ≡ None → are_attrs (given ++ (a ∷ [])) ≡ true
 are_attrs-push [] a h n v new = and_both (is_name a.name) (is_text a.value && true) n (and_both (is_text a.value) true v refl)
@@ -53,7 +42,7 @@ are_attrs-push (x ∷ xs) a h n v new =
     let more = and_right (is_name x.name) (is_text x.value && (absent && are_attrs xs)) h in
     let last = and_right (is_text x.value) (absent && are_attrs xs) more in
     let s = value_absent a.name x xs new in
-    let others = value_push x.name xs a (none_of (attr_value x.name xs) (and_left absent (are_attrs xs) last)) (bytes_differ x.name a.name (bytes_eq a.name x.name) refl s.0) in
+    let others = value_push x.name xs a (none_from (attr_value x.name xs) (and_left absent (are_attrs xs) last)) (bytes_differ x.name a.name s.0) in
     let after = is_none (attr_value x.name (xs ++ (a ∷ []))) in
     let rest = are_attrs (xs ++ (a ∷ [])) in
     and_both (is_name x.name) (is_text x.value && (after && rest)) (and_left (is_name x.name) (is_text x.value && (absent && are_attrs xs)) h)
@@ -207,6 +196,3 @@ open_closed e p es h =
   where
     one_less : (l n : ℕ) → 256 - l ≡ suc n → 256 - suc l ≡ n
     one_less l n is = omega arith
-
-pub open_root : (e : Element) → are_open (e ∷ []) ≡ true → IsTree e
-open_root e h = and_left (is_element 256 e) true h

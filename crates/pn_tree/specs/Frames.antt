@@ -29,7 +29,7 @@ are_open [] = true
 are_open (e ∷ es) = is_element (256 - length es) e && are_open es
 
 -- what holds of a builder's parts between its calls
-pub record IsKept (root : Option Element) (inner : Option Frame) (outer : List Frame) : Type 0 where
+pub record IsBuilder (root : Option Element) (inner : Option Frame) (outer : List Frame) : Type 0 where
   pub room : AllHaveRoom outer
   pub fits : are_open (all_open inner outer) ≡ true
   pub is_tree : IfSome root IsTree

@@ -26,11 +26,11 @@ impl Model for Builder {
 
     ghost coded = { Prim.hlevel (codes, e.the_row.coded) };
 
-    ghost use Rattle.pn_tree.specs.Frames.{all_open, IsKept};
+    ghost use Rattle.pn_tree.specs.Frames.{all_open, IsBuilder};
 
     ghost view = { λ b. record { root = b.root; open_elements = all_open b.inner b.outer.items } };
 
-    ghost invariant = { λ b. IsKept b.root b.inner b.outer.items };
+    ghost invariant = { λ b. IsBuilder b.root b.inner b.outer.items };
 }
 
 impl Builder {
