@@ -9,7 +9,7 @@ use Rattle.pn_command.specs.declared.due.Due.{Due}
 use Rattle.pn_command.specs.declared.due.Due.TheVariants as due
 use Rattle.pn_tree.specs.declared.element.Element.{Element}
 use Rattle.pn_markup.specs.Document.{IsDocument}
-use Rattle.pn_markup.proofs.DocumentAgreeLemmas.{one_tree}
+use Rattle.pn_scan.proofs.ReachLemmas.{one_tree}
 use Rattle.pn_command.specs.declared.status.Status.TheVariants as status
 use Rattle.pn_command.specs.declared.input.Scanned.{Scanned}
 use Rattle.pn_command.specs.declared.input.Scanned.TheVariants as scanned

@@ -4,7 +4,6 @@ use Rattle.std.specs.List.{list_all, flat_map}
 use Rattle.std.specs.Str.{bytes_eq}
 use Rattle.std.proofs.lemmas.Bool.{false≢true}
 use Rattle.std.proofs.lemmas.List.Folds.{list_all-append}
-use Rattle.std.proofs.lemmas.Slice.Eq.{bytes_eq-Decides}
 use Rattle.pn_tree.specs.Canonical.{value_escape, escaped_value, attr_text}
 use Rattle.pn_text.specs.Characters.{is_text, is_name}
 use Rattle.pn_tree.specs.Elements.{attr_value, are_attrs}
@@ -14,30 +13,31 @@ use Rattle.pn_facts.proofs.Truths.{and_left, and_right, and_both}
 use Rattle.pn_markup.specs.Bytes.{spaced}
 use Rattle.pn_markup.specs.Tags.{is_value_byte, ValueText, run, reference, Attribute, Attributes, none, more, Tag}
 use Rattle.pn_markup.proofs.NameLemmas.{name_is}
-use Rattle.pn_markup.proofs.RunLemmas.{is_plain_value, Written, as_is, by_reference, value_written, plain_value, plain_spaced}
+use Rattle.pn_markup.proofs.RunLemmas.{is_unescaped_value, Written, as_is, by_reference, value_written, unescaped_value, unescaped_spaced}
+use Rattle.pn_facts.proofs.Bytes.{bytes_differ}
 
 -- values
 
-value_step : (x : ℕ) (v so_far seen whole b : List ℕ) → list_all is_plain_value seen ≡ true → whole ≡ (so_far ++ seen) ++ (x ∷ v) → b ≡ seen ++ (value_escape x ++ escaped_value v)
-    → ((s r c : List ℕ) → list_all is_plain_value r ≡ true → whole ≡ (s ++ r) ++ v → c ≡ r ++ escaped_value v → ValueText 34 s whole c)
-    → Written is_plain_value x (value_escape x) → ValueText 34 so_far whole b
+value_step : (x : ℕ) (v so_far seen whole b : List ℕ) → list_all is_unescaped_value seen ≡ true → whole ≡ (so_far ++ seen) ++ (x ∷ v) → b ≡ seen ++ (value_escape x ++ escaped_value v)
+    → ((s r c : List ℕ) → list_all is_unescaped_value r ≡ true → whole ≡ (s ++ r) ++ v → c ≡ r ++ escaped_value v → ValueText 34 s whole c)
+    → Written is_unescaped_value x (value_escape x) → ValueText 34 so_far whole b
 value_step x v so_far seen whole b h w is f (as_is p out) =
     let one : (so_far ++ seen) ++ (x ∷ v) ≡ (so_far ++ (seen ++ (x ∷ []))) ++ v =
     sym (append_assoc (so_far ++ seen) (x ∷ []) v) ∙ ap (λ l. l ++ v) (append_assoc so_far seen (x ∷ [])) in
     f so_far (seen ++ (x ∷ [])) b
-    (list_all-append is_plain_value seen (x ∷ []) ∙ and_both (list_all is_plain_value seen) (is_plain_value x && true) h (and_both (is_plain_value x) true p refl))
+    (list_all-append is_unescaped_value seen (x ∷ []) ∙ and_both (list_all is_unescaped_value seen) (is_unescaped_value x && true) h (and_both (is_unescaped_value x) true p refl))
     (w ∙ one) (is ∙ ap (λ l. seen ++ (l ++ escaped_value v)) out ∙ sym (append_assoc seen (x ∷ []) (escaped_value v)))
 value_step x v so_far seen whole b h w is f (by_reference r low) =
     let s = (so_far ++ spaced seen) ++ (x ∷ []) in
     let one : (so_far ++ seen) ++ (x ∷ v) ≡ (s ++ []) ++ v =
-    ap (λ l. (so_far ++ l) ++ (x ∷ v)) (sym (plain_spaced seen h)) ∙ sym (append_assoc (so_far ++ spaced seen) (x ∷ []) v) ∙ ap (λ l. l ++ v) (sym (append-nil s)) in
-    reference so_far whole b seen (x ∷ []) (value_escape x) (escaped_value v) (plain_value seen h) r (f s [] (escaped_value v) refl (w ∙ one) refl) is
+    ap (λ l. (so_far ++ l) ++ (x ∷ v)) (sym (unescaped_spaced seen h)) ∙ sym (append_assoc (so_far ++ spaced seen) (x ∷ []) v) ∙ ap (λ l. l ++ v) (sym (append-nil s)) in
+    reference so_far whole b seen (x ∷ []) (value_escape x) (escaped_value v) (unescaped_value seen h) r (f s [] (escaped_value v) refl (w ∙ one) refl) is
 
-value_text : (v so_far seen whole b : List ℕ) → list_all is_plain_value seen ≡ true → whole ≡ (so_far ++ seen) ++ v → b ≡ seen ++ escaped_value v → ValueText 34 so_far whole b
+value_text : (v so_far seen whole b : List ℕ) → list_all is_unescaped_value seen ≡ true → whole ≡ (so_far ++ seen) ++ v → b ≡ seen ++ escaped_value v → ValueText 34 so_far whole b
 value_text [] so_far seen whole b h w is =
     let same : b ≡ seen = is ∙ append-nil seen in
-    run so_far whole b (subst (λ l. list_all (is_value_byte 34) l ≡ true) (sym same) (plain_value seen h))
-    (w ∙ append-nil (so_far ++ seen) ∙ ap (λ l. so_far ++ l) (sym (ap spaced same ∙ plain_spaced seen h)))
+    run so_far whole b (subst (λ l. list_all (is_value_byte 34) l ≡ true) (sym same) (unescaped_value seen h))
+    (w ∙ append-nil (so_far ++ seen) ∙ ap (λ l. so_far ++ l) (sym (ap spaced same ∙ unescaped_spaced seen h)))
 value_text (x ∷ v) so_far seen whole b h w is = value_step x v so_far seen whole b h w is (λ s r c. value_text v s r whole c) (value_written x)
 
 attribute_text : (a : Attr) → is_name a.name ≡ true → Attribute a.name a.value (a.name ++ (codes "=\"" ++ (escaped_value a.value ++ codes "\"")))
@@ -56,17 +56,9 @@ chosen_none : {X : Type 0} (b : Bool) (x : X) (o : Option X) → is_none (cond b
 chosen_none true x o h = absurd (false≢true h)
 chosen_none false x o h = (refl, h)
 
-none_of : {X : Type 0} (o : Option X) → is_none o ≡ true → o ≡ None
-none_of None h = refl
-none_of (Some x) h = absurd (false≢true h)
-
 other_name : (name : List ℕ) (given rest : List Attr) (a : Attr) → is_none (attr_value name (given ++ (a ∷ rest))) ≡ true → bytes_eq a.name name ≡ false
 other_name name [] rest a h = (chosen_none (bytes_eq a.name name) a.value (attr_value name rest) h).0
 other_name name (x ∷ given) rest a h = other_name name given rest a (chosen_none (bytes_eq x.name name) x.value (attr_value name (given ++ (a ∷ rest))) h).1
-
-bytes_differ : (x y : List ℕ) (b : Bool) → bytes_eq y x ≡ b → bytes_eq x y ≡ false → bytes_eq y x ≡ false
-bytes_differ x y true e h = absurd (false≢true (sym h ∙ (bytes_eq-Decides x y).1 (sym ((bytes_eq-Decides y x).0 e))))
-bytes_differ x y false e h = e
 
 -- what holds of the attributes from one on
 pub record AttrParts (a : Attr) (rest : List Attr) : Type 0 where
@@ -95,7 +87,7 @@ name_is_new : (given rest : List Attr) (a : Attr) → are_attrs (given ++ (a ∷
 name_is_new [] rest a h = refl
 name_is_new (x ∷ given) rest a h =
     let p = attr_parts_of x (given ++ (a ∷ rest)) h in
-    ap (λ b. cond b (Some x.value) (attr_value a.name given)) (bytes_differ a.name x.name (bytes_eq x.name a.name) refl (other_name x.name given rest a p.new))
+    ap (λ b. cond b (Some x.value) (attr_value a.name given)) (bytes_differ a.name x.name (other_name x.name given rest a p.new))
     ∙ name_is_new given rest a p.others
 
 -- an element with these attributes and no kids

@@ -23,7 +23,7 @@ use Rattle.pn_markup.specs.Offsets.{without_offsets, kid_without_offsets}
 use Rattle.pn_markup.proofs.AttributeLemmas.{tagged, tag_text}
 use Rattle.pn_markup.proofs.JoinLemmas.{with_text-append, fresh_text}
 use Rattle.pn_markup.proofs.OffsetLemmas.{without_offsets_is, kid_without-element}
-use Rattle.pn_markup.proofs.RunLemmas.{is_plain, Written, as_is, by_reference, text_written, plain_run, plain_ends}
+use Rattle.pn_markup.proofs.RunLemmas.{is_unescaped, Written, as_is, by_reference, text_written, unescaped_run, unescaped_ends}
 
 -- a kid is an element or a text
 pub data KidIs (k : Child) : Type 0 where
@@ -46,7 +46,7 @@ pub record Filled (S : ℕ → Element → List ℕ → Type 0) (at : ℕ) (so_f
 -- where an element has been read so far, a part of its last text perhaps only as a run that goes on, bytes lead to another
 abbrev pub Leads : (ℕ → Element → List ℕ → Type 0) → Element → Element → List ℕ → Type 0
 Leads S so_far target b =
-    (at : ℕ) (seen : List ℕ) (before : Element) → list_all is_plain seen ≡ true → with_text seen before ≡ so_far → Filled S at before target (seen ++ b)
+    (at : ℕ) (seen : List ℕ) (before : Element) → list_all is_unescaped seen ≡ true → with_text seen before ≡ so_far → Filled S at before target (seen ++ b)
 
 leads_nowhere : (S : ℕ → Element → List ℕ → Type 0) (e target : Element) → without_offsets e ≡ without_offsets target → Leads S e target []
 leads_nowhere S e target alike at seen before h is = record {
@@ -55,26 +55,26 @@ leads_nowhere S e target alike at seen before h is = record {
     run = seen;
     rest = [];
     next = at + length seen;
-    is_run = plain_run seen h;
-    are_items = nothing (at + length seen) (with_text (line_ends seen) before) (with_text (line_ends seen) before) [] refl refl;
+    is_run = unescaped_run seen h;
+    are_pieces = nothing (at + length seen) (with_text (line_ends seen) before) (with_text (line_ends seen) before) [] refl refl;
     offset = refl;
     whole = refl;
   };
-  alike = ap (λ r. without_offsets (with_text r before)) (plain_ends seen h) ∙ ap without_offsets is ∙ alike;
+  alike = ap (λ r. without_offsets (with_text r before)) (unescaped_ends seen h) ∙ ap without_offsets is ∙ alike;
 }
 
 -- one more byte of a text
 
-leads_byte : (S : ℕ → Element → List ℕ → Type 0) (c : ℕ) (e target : Element) (out b : List ℕ) → Written is_plain c out → Leads S (with_text (c ∷ []) e) target b
+leads_byte : (S : ℕ → Element → List ℕ → Type 0) (c : ℕ) (e target : Element) (out b : List ℕ) → Written is_unescaped c out → Leads S (with_text (c ∷ []) e) target b
     → Leads S e target (out ++ b)
 leads_byte S c e target out b (as_is p same) f at seen before h is =
-    let both : list_all is_plain (seen ++ (c ∷ [])) ≡ true =
-    list_all-append is_plain seen (c ∷ []) ∙ and_both (list_all is_plain seen) (is_plain c && true) h (and_both (is_plain c) true p refl) in
+    let both : list_all is_unescaped (seen ++ (c ∷ [])) ≡ true =
+    list_all-append is_unescaped seen (c ∷ []) ∙ and_both (list_all is_unescaped seen) (is_unescaped c && true) h (and_both (is_unescaped c) true p refl) in
     subst (Filled S at before target) (append_assoc seen (c ∷ []) b ∙ ap (λ l. seen ++ (l ++ b)) (sym same))
     (f at (seen ++ (c ∷ [])) before both (with_text-append seen (c ∷ []) before ∙ ap (with_text (c ∷ [])) is))
 leads_byte S c e target out b (by_reference r low) f at seen before h is =
     let given = with_text (c ∷ []) (with_text (line_ends seen) before) in
-    let same : given ≡ with_text (c ∷ []) e = ap (λ l. with_text (c ∷ []) (with_text l before)) (plain_ends seen h) ∙ ap (with_text (c ∷ [])) is in
+    let same : given ≡ with_text (c ∷ []) e = ap (λ l. with_text (c ∷ []) (with_text l before)) (unescaped_ends seen h) ∙ ap (with_text (c ∷ [])) is in
     let later = f (at + length seen + length out) [] given refl same in
     record {
       tree = later.tree;
@@ -82,10 +82,10 @@ leads_byte S c e target out b (by_reference r low) f at seen before h is =
         run = seen;
         rest = out ++ b;
         next = at + length seen;
-        is_run = plain_run seen h;
-        are_items =
+        is_run = unescaped_run seen h;
+        are_pieces =
             piece (at + length seen) (with_text (line_ends seen) before) later.tree (out ++ b) (c ∷ []) out later.content.run later.content.rest later.content.next
-            (reference (c ∷ []) out r) later.content.is_run later.content.are_items later.content.offset (ap (λ l. out ++ l) later.content.whole);
+            (reference (c ∷ []) out r) later.content.is_run later.content.are_pieces later.content.offset (ap (λ l. out ++ l) later.content.whole);
         offset = refl;
         whole = refl;
       };
@@ -112,7 +112,7 @@ leads_element S k e target out b spelled f at seen before h is =
     let kid = spelled (at + length seen) in
     let given = with_kid (children.Element kid.tree) (with_text (line_ends seen) before) in
     let same : given ≡ with_kid (children.Element kid.tree) e =
-    ap (λ l. with_kid (children.Element kid.tree) (with_text l before)) (plain_ends seen h) ∙ ap (with_kid (children.Element kid.tree)) is in
+    ap (λ l. with_kid (children.Element kid.tree) (with_text l before)) (unescaped_ends seen h) ∙ ap (with_kid (children.Element kid.tree)) is in
     let later = f kid.tree kid.alike (at + length seen + length out) [] given refl same in
     record {
       tree = later.tree;
@@ -120,10 +120,10 @@ leads_element S k e target out b spelled f at seen before h is =
         run = seen;
         rest = out ++ b;
         next = at + length seen;
-        is_run = plain_run seen h;
-        are_items =
+        is_run = unescaped_run seen h;
+        are_pieces =
             element (at + length seen) (with_text (line_ends seen) before) later.tree kid.tree (out ++ b) out later.content.run later.content.rest later.content.next
-            kid.spells later.content.is_run later.content.are_items later.content.offset (ap (λ l. out ++ l) later.content.whole);
+            kid.spells later.content.is_run later.content.are_pieces later.content.offset (ap (λ l. out ++ l) later.content.whole);
         offset = refl;
         whole = refl;
       };

@@ -3,13 +3,13 @@ use Rattle.std.proofs.Common.{◌≡◌, ℕ, ◌<◌, true, List, [], ◌∷◌
 use Rattle.std.specs.List.{list_all, flat_map}
 use Rattle.std.proofs.lemmas.Bool.Decides.{nat_tests}
 use Rattle.pn_text.specs.Characters.{is_character, utf8_of, is_text}
-use Rattle.pn_text.proofs.TextLemmas.{is_text-append}
+use Rattle.pn_text.proofs.TextLemmas.{is_text-append, is_past, Encoded, ascii, past, encoded, text_characters, is_text-character}
 use Rattle.pn_facts.proofs.Truths.{and_left, and_right}
 use Rattle.pn_markup.specs.Bytes.{is_space, is_quote, MaybeSpace, Space}
 use Rattle.pn_markup.specs.Content.{CDSect, Piece, reference, section, comment, instruction}
 use Rattle.pn_markup.specs.Misc.{Comment, PI}
 use Rattle.pn_markup.specs.References.{Reference, entity, decimal, hexadecimal, Entity, lt, gt, amp, apos, quot, entity_name, entity_text}
-use Rattle.pn_markup.proofs.CharacterLemmas.{is_past, Encoded, ascii, past, encoded, text_characters, is_text-character, Edge, cut_text, text_behind}
+use Rattle.pn_markup.proofs.CharacterLemmas.{Edge, cut_text, text_behind}
 use Rattle.pn_markup.proofs.LineEndLemmas.{line_ends_text}
 
 -- bytes that begin and end in ASCII
@@ -108,7 +108,7 @@ reference_bounded text b (hexadecimal _ _ c digits n t is) = record {
   ends = is;
 }
 
-entity_is_text : (e : Entity) → is_text (entity_text e) ≡ true
+pub entity_is_text : (e : Entity) → is_text (entity_text e) ≡ true
 entity_is_text lt = refl
 entity_is_text gt = refl
 entity_is_text amp = refl

@@ -12,7 +12,3 @@ pub mod CutLemmas
 pub mod ValueLemmas
 pub mod SpellingLemmas
 pub mod OrderLemmas
-pub mod AgreeLemmas
-pub mod TagAgreeLemmas
-pub mod ContentAgreeLemmas
-pub mod DocumentAgreeLemmas

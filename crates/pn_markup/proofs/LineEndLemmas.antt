@@ -3,10 +3,9 @@ use Rattle.std.proofs.Common.{◌≡◌, ℕ, Bool, true, false, cond, ◌==◌,
 use Rattle.std.specs.List.{list_all, flat_map}
 use Rattle.std.proofs.lemmas.Bool.Decides.{nat_tests}
 use Rattle.pn_text.specs.Characters.{is_character, utf8_of, is_text}
-use Rattle.pn_text.proofs.TextLemmas.{is_text-append}
+use Rattle.pn_text.proofs.TextLemmas.{is_text-append, is_past, Encoded, ascii, past, encoded, text_characters, is_text-character}
 use Rattle.pn_facts.proofs.Truths.{and_left, and_right}
 use Rattle.pn_markup.specs.Bytes.{is_space, line_ends_behind, line_ends, spaced_behind, spaced}
-use Rattle.pn_markup.proofs.CharacterLemmas.{is_past, Encoded, ascii, past, encoded, text_characters, is_text-character}
 
 -- what becomes of a byte in ASCII: one that stands for it, or none
 data Step (read : Bool → List ℕ → List ℕ) (cr : Bool) (b : ℕ) (bs : List ℕ) : Type 0 where

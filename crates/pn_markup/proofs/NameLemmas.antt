@@ -6,7 +6,7 @@ use Rattle.std.proofs.lemmas.List.Folds.{list_all-append}
 use Rattle.pn_text.specs.Characters.{characters_of, utf8_of, is_text, is_name_start, is_name_part, are_name, is_name}
 use Rattle.pn_facts.proofs.Lists.{list_all_each}
 use Rattle.pn_facts.proofs.Truths.{and_left, and_right, and_both}
-use Rattle.pn_markup.proofs.CharacterLemmas.{is_past, Encoded, ascii, past, encoded, text_bytes}
+use Rattle.pn_text.proofs.TextLemmas.{is_past, Encoded, ascii, past, encoded, text_bytes}
 
 past_part : (b : ℕ) → is_past b ≡ true → is_name_part b ≡ true
 past_part b h = grind (arith, nat_tests)

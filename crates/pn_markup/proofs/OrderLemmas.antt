@@ -10,9 +10,9 @@ use Rattle.pn_tree.specs.declared.element.Child.TheVariants as children
 use Rattle.pn_tree.specs.declared.element.Child.TheVariants.{rolls-Text}
 use Rattle.pn_tree.specs.declared.element.Child.TheViews.{out-Child, roll-Child, roll-out-Child}
 use Rattle.pn_markup.specs.Bytes.{line_ends}
-use Rattle.pn_markup.specs.Content.{Items, nothing, piece, element, Content, ElementOver, empty, whole, Spells}
+use Rattle.pn_markup.specs.Content.{ContentPieces, nothing, piece, element, Content, ElementOver, empty, whole, Spells}
 use Rattle.pn_markup.specs.Document.{IsDocument}
-use Rattle.pn_markup.specs.Offsets.{offsets_of, kid_offsets, AreRising, IsOrdered}
+use Rattle.pn_markup.specs.Offsets.{offsets_of, kid_offsets, AreRising, HasRisingOffsets}
 use Rattle.pn_markup.specs.Tags.{Attributes, none, more, named, Tag}
 use Rattle.pn_markup.proofs.OffsetLemmas.{offsets_are, kid_offsets-element, kid_offsets-text}
 
@@ -89,19 +89,19 @@ module _ (S : ℕ → Element → List ℕ → Type 0) (rise : (at : ℕ) (e : E
   Reached : Element → ℕ → Type 0
   Reached e at = Between low (flat_map kid_offsets e.kids) at
 
-  items_reach : (at : ℕ) (so_far complete : Element) (b : List ℕ) → Items S at so_far complete b → Reached so_far at → Reached complete (at + length b)
+  pieces_reach : (at : ℕ) (so_far complete : Element) (b : List ℕ) → ContentPieces S at so_far complete b → Reached so_far at → Reached complete (at + length b)
   unfolding Reached
-  items_reach at so_far complete b (nothing _ _ _ _ same is) p =
+  pieces_reach at so_far complete b (nothing _ _ _ _ same is) p =
       between_to low (flat_map kid_offsets complete.kids) at (at + length b) (omega arith)
       (subst (λ (e : Element). Between low (flat_map kid_offsets e.kids) at) (sym same) p)
-  items_reach at so_far complete b (piece _ _ _ _ text bytes run rest next q r later offset is) p =
+  pieces_reach at so_far complete b (piece _ _ _ _ text bytes run rest next q r later offset is) p =
       let given = with_text (line_ends run) (with_text text so_far) in
       let same : flat_map kid_offsets given.kids ≡ flat_map kid_offsets so_far.kids = with_text_offsets (line_ends run) (with_text text so_far) ∙ with_text_offsets text so_far in
       let here : Between low (flat_map kid_offsets given.kids) next =
       subst (λ l. Between low l next) (sym same) (between_to low (flat_map kid_offsets so_far.kids) at next (omega arith) p) in
       let size : length b ≡ length bytes + (length run + length rest) = ap length is ∙ length-append bytes (run ++ rest) ∙ ap (λ n. length bytes + n) (length-append run rest) in
-      between_to low (flat_map kid_offsets complete.kids) (next + length rest) (at + length b) (omega arith) (items_reach next given complete rest later here)
-  items_reach at so_far complete b (element _ _ _ e _ bytes run rest next s r later offset is) p =
+      between_to low (flat_map kid_offsets complete.kids) (next + length rest) (at + length b) (omega arith) (pieces_reach next given complete rest later here)
+  pieces_reach at so_far complete b (element _ _ _ e _ bytes run rest next s r later offset is) p =
       let given = with_text (line_ends run) (with_kid (children.Element e) so_far) in
       let same : flat_map kid_offsets given.kids ≡ flat_map kid_offsets so_far.kids ++ offsets_of e =
       with_text_offsets (line_ends run) (with_kid (children.Element e) so_far) ∙ with_kid_offsets e so_far in
@@ -109,7 +109,7 @@ module _ (S : ℕ → Element → List ℕ → Type 0) (rise : (at : ℕ) (e : E
       let here : Between low (flat_map kid_offsets given.kids) next =
       subst (λ l. Between low l next) (sym same) (between_to low (flat_map kid_offsets so_far.kids ++ offsets_of e) (at + length bytes) next (omega arith) both) in
       let size : length b ≡ length bytes + (length run + length rest) = ap length is ∙ length-append bytes (run ++ rest) ∙ ap (λ n. length bytes + n) (length-append run rest) in
-      between_to low (flat_map kid_offsets complete.kids) (next + length rest) (at + length b) (omega arith) (items_reach next given complete rest later here)
+      between_to low (flat_map kid_offsets complete.kids) (next + length rest) (at + length b) (omega arith) (pieces_reach next given complete rest later here)
 
   content_reach : (at : ℕ) (so_far complete : Element) (b : List ℕ) → Content S at so_far complete b → Reached so_far at → Reached complete (at + length b)
   unfolding Reached
@@ -119,14 +119,14 @@ module _ (S : ℕ → Element → List ℕ → Type 0) (rise : (at : ℕ) (e : E
       let here : Between low (flat_map kid_offsets given.kids) c.next =
       subst (λ l. Between low l c.next) (sym (with_text_offsets (line_ends c.run) so_far)) (between_to low (flat_map kid_offsets so_far.kids) at c.next (omega arith) p) in
       let size : length b ≡ length c.run + length c.rest = ap length c.whole ∙ length-append c.run c.rest in
-      between_to low (flat_map kid_offsets complete.kids) (c.next + length c.rest) (at + length b) (omega arith) (items_reach c.next given complete c.rest c.are_items here)
+      between_to low (flat_map kid_offsets complete.kids) (c.next + length c.rest) (at + length b) (omega arith) (pieces_reach c.next given complete c.rest c.are_pieces here)
 
-items_at : (S : ℕ → Element → List ℕ → Type 0) (at : ℕ) (so_far complete : Element) (b : List ℕ) → Items S at so_far complete b → complete.at ≡ so_far.at
-items_at S at so_far complete b (nothing _ _ _ _ same is) = ap (λ (e : Element). e.at) same
-items_at S at so_far complete b (piece _ _ _ _ text bytes run rest next q r later offset is) =
-    items_at S next (with_text (line_ends run) (with_text text so_far)) complete rest later ∙ with_text_at (line_ends run) (with_text text so_far) ∙ with_text_at text so_far
-items_at S at so_far complete b (element _ _ _ e _ bytes run rest next s r later offset is) =
-    items_at S next (with_text (line_ends run) (with_kid (children.Element e) so_far)) complete rest later ∙ with_text_at (line_ends run) (with_kid (children.Element e) so_far)
+pieces_at : (S : ℕ → Element → List ℕ → Type 0) (at : ℕ) (so_far complete : Element) (b : List ℕ) → ContentPieces S at so_far complete b → complete.at ≡ so_far.at
+pieces_at S at so_far complete b (nothing _ _ _ _ same is) = ap (λ (e : Element). e.at) same
+pieces_at S at so_far complete b (piece _ _ _ _ text bytes run rest next q r later offset is) =
+    pieces_at S next (with_text (line_ends run) (with_text text so_far)) complete rest later ∙ with_text_at (line_ends run) (with_text text so_far) ∙ with_text_at text so_far
+pieces_at S at so_far complete b (element _ _ _ e _ bytes run rest next s r later offset is) =
+    pieces_at S next (with_text (line_ends run) (with_kid (children.Element e) so_far)) complete rest later ∙ with_text_at (line_ends run) (with_kid (children.Element e) so_far)
 
 -- elements
 
@@ -143,7 +143,7 @@ element_rises S rise at e b (whole _ _ started _ tag inner close next t c etag o
     let size : length b ≡ length tag + suc (length inner + length close) = ap length is ∙ length-append tag (62 ∷ (inner ++ close)) ∙ ap (λ n. length tag + suc n) (length-append inner close) in
     let begun : Between (suc at) (flat_map kid_offsets started.kids) next = subst (λ (ks : List Child). Between (suc at) (flat_map kid_offsets ks) next) (sym u.1) (omega arith) in
     let kids : Between (suc at) (flat_map kid_offsets e.kids) (next + length inner) = content_reach S rise (suc at) next started e inner c begun in
-    let same : e.at ≡ at = items_at S c.next (with_text (line_ends c.run) started) e c.rest c.are_items ∙ with_text_at (line_ends c.run) started ∙ u.0 in
+    let same : e.at ≡ at = pieces_at S c.next (with_text (line_ends c.run) started) e c.rest c.are_pieces ∙ with_text_at (line_ends c.run) started ∙ u.0 in
     subst (λ l. Between at l (at + length b)) (sym (offsets_are e ∙ ap (λ n. n ∷ flat_map kid_offsets e.kids) same))
     (omega arith, between_to (suc at) (flat_map kid_offsets e.kids) (next + length inner) (at + length b) (omega arith) kids)
 
@@ -152,6 +152,6 @@ spelled_rises zero at e b s = absurd s
 spelled_rises (suc n) at e b s = element_rises (Spells n) (λ at x bytes. spelled_rises n at x bytes) at e b s
 
 -- the offsets in the tree of a document rise
-pub document_rises : (t : Element) (b : List ℕ) → IsDocument t b → IsOrdered t
+pub document_rises : (t : Element) (b : List ℕ) → IsDocument t b → HasRisingOffsets t
 document_rises t b d =
     let m = d.markup in between_rising (length m.prolog) (offsets_of t) (length m.prolog + length m.root) (spelled_rises 256 (length m.prolog) t m.root m.is_root)

@@ -8,7 +8,7 @@ use Rattle.pn_tree.specs.declared.element.Child.TheVariants as children
 use Rattle.pn_tree.proofs.OpenLemmas.{text_parts, kid_parts}
 use Rattle.pn_tree.proofs.TreeLemmas.{Parts, of_parts}
 use Rattle.pn_markup.specs.Bytes.{line_ends}
-use Rattle.pn_markup.specs.Content.{Items, nothing, piece, element, Content, ElementOver, empty, whole, Spells}
+use Rattle.pn_markup.specs.Content.{ContentPieces, nothing, piece, element, Content, ElementOver, empty, whole, Spells}
 use Rattle.pn_markup.specs.Document.{IsDocument}
 use Rattle.pn_markup.proofs.CharacterLemmas.{Edge, cut_text, text_behind}
 use Rattle.pn_markup.proofs.CutLemmas.{Bounded, bounded_edge, cut_behind, piece_bounded, piece_text}
@@ -50,31 +50,31 @@ spells_bounded zero at e b s = absurd s
 spells_bounded (suc n) at e b s = element_bounded (Spells n) at e b s
 
 module _ (n : ℕ) (fits : (at : ℕ) (e : Element) (b : List ℕ) → Spells n at e b → is_text b ≡ true → is_element n e ≡ true) where
-  items_edge : (at : ℕ) (so_far complete : Element) (b : List ℕ) → Items (Spells n) at so_far complete b → Edge b
-  items_edge at so_far complete b (nothing _ _ _ _ same is) = subst Edge (sym is) tt
-  items_edge at so_far complete b (piece _ _ _ _ text bytes run rest next p r later offset is) = subst Edge (sym is) (bounded_edge bytes (run ++ rest) (piece_bounded text bytes p))
-  items_edge at so_far complete b (element _ _ _ e _ bytes run rest next s r later offset is) = subst Edge (sym is) (bounded_edge bytes (run ++ rest) (spells_bounded n at e bytes s))
+  pieces_edge : (at : ℕ) (so_far complete : Element) (b : List ℕ) → ContentPieces (Spells n) at so_far complete b → Edge b
+  pieces_edge at so_far complete b (nothing _ _ _ _ same is) = subst Edge (sym is) tt
+  pieces_edge at so_far complete b (piece _ _ _ _ text bytes run rest next p r later offset is) = subst Edge (sym is) (bounded_edge bytes (run ++ rest) (piece_bounded text bytes p))
+  pieces_edge at so_far complete b (element _ _ _ e _ bytes run rest next s r later offset is) = subst Edge (sym is) (bounded_edge bytes (run ++ rest) (spells_bounded n at e bytes s))
 
-  items_parts : (at : ℕ) (so_far complete : Element) (b : List ℕ) → Items (Spells n) at so_far complete b → is_text b ≡ true → Parts n so_far → Parts n complete
-  items_parts at so_far complete b (nothing _ _ _ _ same is) h p = subst (Parts n) (sym same) p
-  items_parts at so_far complete b (piece _ _ _ _ text bytes run rest next q r later offset is) h p =
+  pieces_parts : (at : ℕ) (so_far complete : Element) (b : List ℕ) → ContentPieces (Spells n) at so_far complete b → is_text b ≡ true → Parts n so_far → Parts n complete
+  pieces_parts at so_far complete b (nothing _ _ _ _ same is) h p = subst (Parts n) (sym same) p
+  pieces_parts at so_far complete b (piece _ _ _ _ text bytes run rest next q r later offset is) h p =
       let behind = cut_behind bytes (run ++ rest) (piece_bounded text bytes q) (sym (ap is_text is) ∙ h) in
       let given = with_text (line_ends run) (with_text text so_far) in
-      let cut = cut_text run rest behind.1 (items_edge next given complete rest later) in
-      items_parts next given complete rest later cut.1
+      let cut = cut_text run rest behind.1 (pieces_edge next given complete rest later) in
+      pieces_parts next given complete rest later cut.1
       (text_parts n (with_text text so_far) (line_ends run) (line_ends_text run cut.0) (text_parts n so_far text (piece_text text bytes q behind.0) p))
-  items_parts at so_far complete b (element _ _ _ e _ bytes run rest next s r later offset is) h p =
+  pieces_parts at so_far complete b (element _ _ _ e _ bytes run rest next s r later offset is) h p =
       let behind = cut_behind bytes (run ++ rest) (spells_bounded n at e bytes s) (sym (ap is_text is) ∙ h) in
       let given = with_text (line_ends run) (with_kid (children.Element e) so_far) in
-      let cut = cut_text run rest behind.1 (items_edge next given complete rest later) in
-      items_parts next given complete rest later cut.1
+      let cut = cut_text run rest behind.1 (pieces_edge next given complete rest later) in
+      pieces_parts next given complete rest later cut.1
       (text_parts n (with_kid (children.Element e) so_far) (line_ends run) (line_ends_text run cut.0) (kid_parts n so_far e (fits at e bytes s behind.0) p))
 
   content_parts : (at : ℕ) (so_far complete : Element) (b : List ℕ) → Content (Spells n) at so_far complete b → is_text b ≡ true → Parts n so_far → Parts n complete
   content_parts at so_far complete b c h p =
       let given = with_text (line_ends c.run) so_far in
-      let cut = cut_text c.run c.rest (sym (ap is_text c.whole) ∙ h) (items_edge c.next given complete c.rest c.are_items) in
-      items_parts c.next given complete c.rest c.are_items cut.1 (text_parts n so_far (line_ends c.run) (line_ends_text c.run cut.0) p)
+      let cut = cut_text c.run c.rest (sym (ap is_text c.whole) ∙ h) (pieces_edge c.next given complete c.rest c.are_pieces) in
+      pieces_parts c.next given complete c.rest c.are_pieces cut.1 (text_parts n so_far (line_ends c.run) (line_ends_text c.run cut.0) p)
 
   element_parts : (at : ℕ) (e : Element) (b : List ℕ) → ElementOver (Spells n) at e b → is_text b ≡ true → Parts n e
   element_parts at e b (empty _ _ _ tag t is) h = tag_parts n at e tag t (cut_text tag (codes "/>") (sym (ap is_text is) ∙ h) (omega arith)).0

@@ -10,47 +10,46 @@ use Rattle.pn_tree.specs.declared.element.Attr.{Attr}
 use Rattle.pn_tree.specs.declared.element.Element.{Element}
 use Rattle.pn_tree.specs.declared.element.Child.{Child}
 use Rattle.pn_tree.proofs.ElementLemmas.{is_kid-element, is_kid-text, element_text_is, child_text-element, child_text-text}
-use Rattle.pn_text.proofs.TextLemmas.{is_text-append, is_text-ascii}
+use Rattle.pn_text.proofs.TextLemmas.{is_text-append, is_text-ascii, is_past, Encoded, ascii, past, encoded, text_characters, is_text-character}
 use Rattle.pn_facts.proofs.Lists.{flat_map_same}
 use Rattle.pn_tree.proofs.TreeLemmas.{parts_of, not_element-zero}
 use Rattle.pn_facts.proofs.Truths.{and_left, and_right, and_both}
 use Rattle.pn_markup.proofs.AttributeLemmas.{attr_parts_of}
-use Rattle.pn_markup.proofs.CharacterLemmas.{is_past, Encoded, ascii, past, encoded, text_characters, is_text-character}
 use Rattle.pn_markup.proofs.ContentLemmas.{KidIs, an_element, a_text, kid_is}
 use Rattle.pn_markup.proofs.NameLemmas.{name_text}
-use Rattle.pn_markup.proofs.RunLemmas.{is_plain, is_plain_value, Written, as_is, by_reference, text_written, value_written}
+use Rattle.pn_markup.proofs.RunLemmas.{is_unescaped, is_unescaped_value, Written, as_is, by_reference, text_written, value_written}
 
-character_written : (plain : ℕ → Bool) (write : ℕ → List ℕ) → ((b : ℕ) → is_past b ≡ true → write b ≡ b ∷ []) → ((b : ℕ) → Written plain b (write b)) → (c : ℕ)
+character_written : (unescaped : ℕ → Bool) (write : ℕ → List ℕ) → ((b : ℕ) → is_past b ≡ true → write b ≡ b ∷ []) → ((b : ℕ) → Written unescaped b (write b)) → (c : ℕ)
     → is_character c ≡ true → is_text (flat_map write (utf8_of c)) ≡ true
-character_written plain write same written c h = by (encoded c) (written c)
+character_written unescaped write same written c h = by (encoded c) (written c)
   where
-    by : Encoded c (utf8_of c) → Written plain c (write c) → is_text (flat_map write (utf8_of c)) ≡ true
+    by : Encoded c (utf8_of c) → Written unescaped c (write c) → is_text (flat_map write (utf8_of c)) ≡ true
     by (ascii lt one) (as_is p out) = ap (λ l. is_text (flat_map write l)) one ∙ ap (λ l. is_text (l ++ [])) (out ∙ sym one) ∙ ap is_text (append-nil (utf8_of c)) ∙ is_text-character c h
     by (ascii lt one) (by_reference r low) = ap (λ l. is_text (flat_map write l)) one ∙ ap is_text (append-nil (write c)) ∙ is_text-ascii (write c) low
     by (past lt first more bytes high) w =
         ap (λ l. is_text (flat_map write l)) bytes ∙ ap is_text (flat_map_same write is_past same (first ∷ more) high ∙ sym bytes) ∙ is_text-character c h
 
-characters_written : (plain : ℕ → Bool) (write : ℕ → List ℕ) → ((b : ℕ) → is_past b ≡ true → write b ≡ b ∷ []) → ((b : ℕ) → Written plain b (write b)) → (cs : List ℕ)
+characters_written : (unescaped : ℕ → Bool) (write : ℕ → List ℕ) → ((b : ℕ) → is_past b ≡ true → write b ≡ b ∷ []) → ((b : ℕ) → Written unescaped b (write b)) → (cs : List ℕ)
     → list_all is_character cs ≡ true → is_text (flat_map write (flat_map utf8_of cs)) ≡ true
-characters_written plain write same written [] h = refl
-characters_written plain write same written (c ∷ cs) h =
+characters_written unescaped write same written [] h = refl
+characters_written unescaped write same written (c ∷ cs) h =
     ap is_text (flat_map-append write (utf8_of c) (flat_map utf8_of cs))
     ∙ is_text-append (flat_map write (utf8_of c)) (flat_map write (flat_map utf8_of cs))
-    (character_written plain write same written c (and_left (is_character c) (list_all is_character cs) h))
-    (characters_written plain write same written cs (and_right (is_character c) (list_all is_character cs) h))
+    (character_written unescaped write same written c (and_left (is_character c) (list_all is_character cs) h))
+    (characters_written unescaped write same written cs (and_right (is_character c) (list_all is_character cs) h))
 
 -- a text whose bytes are written, each as it is or by a reference
-text_is_written : (plain : ℕ → Bool) (write : ℕ → List ℕ) → ((b : ℕ) → is_past b ≡ true → write b ≡ b ∷ []) → ((b : ℕ) → Written plain b (write b)) → (bs : List ℕ)
+text_is_written : (unescaped : ℕ → Bool) (write : ℕ → List ℕ) → ((b : ℕ) → is_past b ≡ true → write b ≡ b ∷ []) → ((b : ℕ) → Written unescaped b (write b)) → (bs : List ℕ)
     → is_text bs ≡ true → is_text (flat_map write bs) ≡ true
-text_is_written plain write same written bs h =
+text_is_written unescaped write same written bs h =
     let t = text_characters bs h in
-    ap (λ l. is_text (flat_map write l)) (sym t.bytes) ∙ characters_written plain write same written t.spelled t.are_characters
+    ap (λ l. is_text (flat_map write l)) (sym t.bytes) ∙ characters_written unescaped write same written t.spelled t.are_characters
 
 escaped_text_is_text : (t : List ℕ) → is_text t ≡ true → is_text (escaped_text t) ≡ true
-escaped_text_is_text t h = text_is_written is_plain text_escape (λ b p. grind (arith, nat_tests)) text_written t h
+escaped_text_is_text t h = text_is_written is_unescaped text_escape (λ b p. grind (arith, nat_tests)) text_written t h
 
 escaped_value_is_text : (v : List ℕ) → is_text v ≡ true → is_text (escaped_value v) ≡ true
-escaped_value_is_text v h = text_is_written is_plain_value value_escape (λ b p. grind (arith, nat_tests)) value_written v h
+escaped_value_is_text v h = text_is_written is_unescaped_value value_escape (λ b p. grind (arith, nat_tests)) value_written v h
 
 attr_is_text : (a : Attr) → is_name a.name ≡ true → is_text a.value ≡ true → is_text (attr_text a) ≡ true
 attr_is_text a n v =

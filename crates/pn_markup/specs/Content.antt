@@ -31,14 +31,14 @@ pub data Piece : List ℕ → List ℕ → Type 0 where
 
 -- the pieces and elements in an element, each with the run behind it (3.1, content, after its first CharData). They lead from the element
 -- with the kids so far to the whole: a text is joined to a text before it. S at e b: b spells the element e at the offset `at`
-pub data Items (S : ℕ → Element → List ℕ → Type 0) : ℕ → Element → Element → List ℕ → Type 0 where
-  nothing : (at : ℕ) (so_far whole : Element) (b : List ℕ) → whole ≡ so_far → b ≡ [] → Items S at so_far whole b
+pub data ContentPieces (S : ℕ → Element → List ℕ → Type 0) : ℕ → Element → Element → List ℕ → Type 0 where
+  nothing : (at : ℕ) (so_far whole : Element) (b : List ℕ) → whole ≡ so_far → b ≡ [] → ContentPieces S at so_far whole b
   piece : (at : ℕ) (so_far whole : Element) (b text bytes run rest : List ℕ) (next : ℕ) → Piece text bytes → CharData run
-      → Items S next (with_text (line_ends run) (with_text text so_far)) whole rest
-      → next ≡ at + length bytes + length run → b ≡ bytes ++ (run ++ rest) → Items S at so_far whole b
+      → ContentPieces S next (with_text (line_ends run) (with_text text so_far)) whole rest
+      → next ≡ at + length bytes + length run → b ≡ bytes ++ (run ++ rest) → ContentPieces S at so_far whole b
   element : (at : ℕ) (so_far whole e : Element) (b bytes run rest : List ℕ) (next : ℕ) → S at e bytes → CharData run
-      → Items S next (with_text (line_ends run) (with_kid (children.Element e) so_far)) whole rest
-      → next ≡ at + length bytes + length run → b ≡ bytes ++ (run ++ rest) → Items S at so_far whole b
+      → ContentPieces S next (with_text (line_ends run) (with_kid (children.Element e) so_far)) whole rest
+      → next ≡ at + length bytes + length run → b ≡ bytes ++ (run ++ rest) → ContentPieces S at so_far whole b
 
 -- content (3.1, content): a run, then pieces and elements, each with a run behind it; so each run is as long as it can be
 pub record Content (S : ℕ → Element → List ℕ → Type 0) (at : ℕ) (so_far complete : Element) (b : List ℕ) : Type 0 where
@@ -46,7 +46,7 @@ pub record Content (S : ℕ → Element → List ℕ → Type 0) (at : ℕ) (so_
   pub rest : List ℕ
   pub next : ℕ
   pub is_run : CharData run
-  pub are_items : Items S next (with_text (line_ends run) so_far) complete rest
+  pub are_pieces : ContentPieces S next (with_text (line_ends run) so_far) complete rest
   pub offset : next ≡ at + length run
   pub whole : b ≡ run ++ rest
 

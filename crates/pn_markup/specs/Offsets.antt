@@ -50,5 +50,5 @@ AreRising (n ∷ []) = ⊤
 AreRising (n ∷ m ∷ ns) = (n < m) × AreRising (m ∷ ns)
 
 -- the offsets rise in document order
-abbrev pub IsOrdered : Element → Type 0
-IsOrdered e = AreRising (offsets_of e)
+abbrev pub HasRisingOffsets : Element → Type 0
+HasRisingOffsets e = AreRising (offsets_of e)

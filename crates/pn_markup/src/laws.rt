@@ -5,7 +5,7 @@ ghost use Rattle.pn_tree.specs.Canonical.{canonical_text};
 ghost use Rattle.pn_tree.specs.Elements.{IsTree};
 ghost use Rattle.pn_tree.specs.declared.element.Element.{Element};
 ghost use Rattle.pn_markup.specs.Document.{IsDocument};
-ghost use Rattle.pn_markup.specs.Offsets.{SpellsAlike, IsOrdered};
+ghost use Rattle.pn_markup.specs.Offsets.{SpellsAlike, HasRisingOffsets};
 
 /// The canonical text of a tree is a document. Its tree is that tree but for the offsets.
 pub fn canonical_text_is_a_document()
@@ -20,10 +20,5 @@ pub fn trees_of_documents_are_trees()
 
 /// The offsets in the tree of a document rise in document order.
 pub fn offsets_rise()
-    ensures { (t : Element) (b : List ℕ) → IsDocument t b → IsOrdered t }
-{}
-
-/// A text spells one tree.
-pub fn a_text_spells_one_tree()
-    ensures { (t u : Element) (b : List ℕ) → IsDocument t b → IsDocument u b → t ≡ u }
+    ensures { (t : Element) (b : List ℕ) → IsDocument t b → HasRisingOffsets t }
 {}

@@ -1,5 +1,5 @@
 -- Attributes up to their value, byte by byte.
-use Rattle.std.proofs.Common.{◌≡◌, ℕ, true, false, cond, ◌==◌, List, [], ◌∷◌, ◌++◌, Option, Some, None, is_none, refl, sym, ap, ◌∙◌, subst, append_assoc, append-nil}
+use Rattle.std.proofs.Common.{◌≡◌, ℕ, true, false, cond, ◌==◌, List, [], ◌∷◌, ◌++◌, Some, None, is_none, refl, sym, ap, ◌∙◌, subst, append_assoc, append-nil}
 use Rattle.std.proofs.lemmas.Bool.{false≢true, and_parts}
 use Rattle.std.specs.List.{list_all}
 use Rattle.pn_text.specs.Characters.{is_name_part}
@@ -10,9 +10,10 @@ use Rattle.pn_markup.specs.Tags.{AttValue, Eq, ValueText, run, reference}
 use Rattle.pn_tree.specs.declared.element.Element.{Element}
 use Rattle.pn_scan.specs.State.{in_attribute, before_equals, behind_equals, in_value}
 use Rattle.pn_scan.specs.Rest.{Rest, TagMore, AttributeMore, EqualsMore, QuoteMore, ValueMore, ValueBehind, last_run, next_reference}
-use Rattle.pn_scan.specs.Step.{step, step_equals, step_quote}
+use Rattle.pn_scan.specs.NextState.{next_state, next_before_equals, next_behind_equals}
 use Rattle.pn_scan.proofs.Tools.{Law, law_if, law_some, law_none, law_at, head_is, tail_is, differs, apart}
 use Rattle.pn_scan.proofs.Spans.{span_in, span_out, Front, here, there, front_of, all_more, name_has, space_no_part, quote_no_space}
+use Rattle.pn_facts.proofs.Options.{none_from}
 
 -- a value from its first byte on, and what is left of it
 pub value_in : (quote : ℕ) (so_far whole b : List ℕ) → ValueText quote so_far whole b → ValueBehind quote false so_far whole b
@@ -92,7 +93,7 @@ module _ (levels : ℕ) (outer : List Element) (e : Element) where
       let i = span_out is_space x c q.0 (61 ∷ (q.1 ++ (m.quoted ++ m.rest))) q.2 h (equals_whole (x ∷ c) q.0 q.1 m.quoted m.rest m.equals q.4 m.whole) in
       differs x 61 c (q.1 ++ (m.quoted ++ m.rest)) k (sym i.1)
 
-  pub law_before : (name : List ℕ) (at x : ℕ) → Law (Rest (before_equals levels outer e name)) at x (step_equals levels outer e name x)
+  pub law_before : (name : List ℕ) (at x : ℕ) → Law (Rest (before_equals levels outer e name)) at x (next_before_equals levels outer e name x)
   law_before name at x =
       let R = Rest (before_equals levels outer e name) in
       law_if R at x (is_space x) (Some (before_equals levels outer e name)) (cond (x == 61) (Some (behind_equals levels outer e name)) None)
@@ -164,7 +165,7 @@ module _ (levels : ℕ) (outer : List Element) (e : Element) where
       let q : x ≡ v.quote = head_is x v.quote c (v.text ++ (v.quote ∷ m.rest)) (quote_begins name x h N t c m) in
       false≢true (sym k ∙ ap is_quote q ∙ v.quoted)
 
-  pub law_behind : (name : List ℕ) (at x : ℕ) → Law (Rest (behind_equals levels outer e name)) at x (step_quote levels outer e name x)
+  pub law_behind : (name : List ℕ) (at x : ℕ) → Law (Rest (behind_equals levels outer e name)) at x (next_behind_equals levels outer e name x)
   law_behind name at x =
       let R = Rest (behind_equals levels outer e name) in
       law_if R at x (is_space x) (Some (behind_equals levels outer e name)) (cond (is_quote x) (Some (in_value levels outer e name x [] false)) None)
@@ -263,18 +264,14 @@ module _ (levels : ℕ) (outer : List Element) (e : Element) where
         whole = m.whole;
       }
 
-  pub is_none-true : {A : Type 0} (o : Option A) → is_none o ≡ true → o ≡ None
-  is_none-true None h = refl
-  is_none-true (Some a) h = absurd (false≢true h)
-
-  pub law_attribute : (name : List ℕ) → Name name → (at x : ℕ) → Law (Rest (in_attribute levels outer e name)) at x (step (in_attribute levels outer e name) at x)
+  pub law_attribute : (name : List ℕ) → Name name → (at x : ℕ) → Law (Rest (in_attribute levels outer e name)) at x (next_state (in_attribute levels outer e name) at x)
   law_attribute name is at x =
       let R = Rest (in_attribute levels outer e name) in
-      law_if R at x (is_name_part x) (Some (in_attribute levels outer e (name ++ (x ∷ [])))) (cond (is_none (attr_value name e.attrs)) (step_equals levels outer e name x) None)
+      law_if R at x (is_name_part x) (Some (in_attribute levels outer e (name ++ (x ∷ [])))) (cond (is_none (attr_value name e.attrs)) (next_before_equals levels outer e name x) None)
       (λ h. law_some R at x (in_attribute levels outer e (name ++ (x ∷ []))) (attribute_goes name x h) (attribute_comes name x))
-      (λ h. law_if R at x (is_none (attr_value name e.attrs)) (step_equals levels outer e name x) None
+      (λ h. law_if R at x (is_none (attr_value name e.attrs)) (next_before_equals levels outer e name x) None
       (λ k. let l = law_before name at x in record {
         goes = λ N t c w m. l.goes N t c w (attribute_over name x h N t c m).1;
-        comes = λ N t c w r. attribute_under name is (is_none-true (attr_value name e.attrs) k) N t (x ∷ c) (l.comes N t c w r);
+        comes = λ N t c w r. attribute_under name is (none_from (attr_value name e.attrs) k) N t (x ∷ c) (l.comes N t c w r);
       })
       (λ k. law_none R at x (λ N t c m. false≢true (sym k ∙ ap is_none (attribute_over name x h N t c m).0))))

@@ -1,24 +1,24 @@
--- How items begin: with `<` or `&`.
+-- How pieces of content begin: with `<` or `&`.
 use Rattle.std.proofs.Common.{◌≡◌, ℕ, suc, false, ◌==◌, List, ◌∷◌, ◌++◌, codes, refl, ap, ◌∙◌}
 use Rattle.pn_tree.specs.declared.element.Element.{Element}
-use Rattle.pn_scan.specs.State.{Place, before, within, behind}
-use Rattle.pn_scan.specs.Rest.{Begun, a_comment, an_instruction, a_section, a_reference, an_end, a_tag, Marked, Behind}
+use Rattle.pn_scan.specs.State.{Nesting, before, within, behind}
+use Rattle.pn_scan.specs.Rest.{Begun, a_comment, an_instruction, a_section, a_reference, an_end, a_tag, Marked, BehindElement}
 use Rattle.pn_scan.proofs.Tools.{head_is, differs}
 use Rattle.pn_scan.proofs.PieceLemmas.{marked_begun}
 use Rattle.pn_scan.proofs.ValueLaws.{reference_begins}
 
 -- with `<`, or in content with `&`
-pub data Opening (place : Place) (x : ℕ) : Type 0 where
-  less : x ≡ 60 → Opening place x
-  ampersand : (levels : ℕ) (e : Element) (outer : List Element) → place ≡ within levels e outer → x ≡ 38 → Opening place x
+pub data Opening (nesting : Nesting) (x : ℕ) : Type 0 where
+  less : x ≡ 60 → Opening nesting x
+  ampersand : (levels : ℕ) (e : Element) (outer : List Element) → nesting ≡ within levels e outer → x ≡ 38 → Opening nesting x
 
-pub begun_opening : (N : ℕ) (t : Element) (at : ℕ) (place : Place) (x : ℕ) (c : List ℕ) → Begun N t at place (x ∷ c) → Opening place x
-begun_opening N t at place x c b = go place (x ∷ c) b refl
+pub begun_opening : (N : ℕ) (t : Element) (at : ℕ) (nesting : Nesting) (x : ℕ) (c : List ℕ) → Begun N t at nesting (x ∷ c) → Opening nesting x
+begun_opening N t at nesting x c b = go nesting (x ∷ c) b refl
   where
     first : (k : ℕ) (bytes more rest d : List ℕ) → x ∷ c ≡ d → d ≡ bytes ++ rest → bytes ≡ k ∷ more → x ≡ k
     first k bytes more rest d e w i = head_is x k c (more ++ rest) (e ∙ w ∙ ap (λ l. l ++ rest) i)
 
-    go : (p : Place) (d : List ℕ) → Begun N t at p d → x ∷ c ≡ d → Opening p x
+    go : (p : Nesting) (d : List ℕ) → Begun N t at p d → x ∷ c ≡ d → Opening p x
     go p d (a_comment _ _ bytes rest m r w) e = less (first 60 bytes (codes "!--" ++ (m.0 ++ codes "-->")) rest d e w m.2)
     go p d (an_instruction _ _ bytes rest m r w) e = less (first 60 bytes (codes "?" ++ (m.target ++ (m.text ++ codes "?>"))) rest d e w m.whole)
     go p d (a_section _ _ l f es raw bytes rest i s r w) e = less (first 60 bytes (codes "![CDATA[" ++ (raw ++ codes "]]>")) rest d e w s.1)
@@ -27,18 +27,18 @@ begun_opening N t at place x c b = go place (x ∷ c) b refl
     go p d (an_end _ _ l f es bytes rest i s r w) e = less (first 60 bytes (codes "/" ++ (f.name ++ (s.0 ++ codes ">"))) rest d e w s.2)
     go p d (a_tag _ _ l es f bytes rest i s r w) e = less (first 60 bytes (s.name ++ s.attributes) rest d e w s.whole)
 
--- no item begins with another byte
-pub no_item : (N : ℕ) (t : Element) (at : ℕ) (place : Place) (x : ℕ) (c : List ℕ) → (x == 60) ≡ false → (x == 38) ≡ false → Begun N t at place (x ∷ c) → ⊥
-no_item N t at place x c h k b = go (begun_opening N t at place x c b)
+-- no piece begins with another byte
+pub no_piece : (N : ℕ) (t : Element) (at : ℕ) (nesting : Nesting) (x : ℕ) (c : List ℕ) → (x == 60) ≡ false → (x == 38) ≡ false → Begun N t at nesting (x ∷ c) → ⊥
+no_piece N t at nesting x c h k b = go (begun_opening N t at nesting x c b)
   where
-    go : Opening place x → ⊥
+    go : Opening nesting x → ⊥
     go (less i) = differs x 60 c c h (ap (λ y. y ∷ c) i)
     go (ampersand l e es i j) = differs x 38 c c k (ap (λ y. y ∷ c) j)
 
-not_within : (l : ℕ) (e : Element) (es : List Element) → before ≡ within l e es → ⊥
+pub not_within : (l : ℕ) (e : Element) (es : List Element) → before ≡ within l e es → ⊥
 not_within l e es h = cc
 
-not_inside : (l : ℕ) (root e : Element) (es : List Element) → behind root ≡ within l e es → ⊥
+pub not_inside : (l : ℕ) (root e : Element) (es : List Element) → behind root ≡ within l e es → ⊥
 not_inside l root e es h = cc
 
 -- outside the root each begins with `<`
@@ -58,5 +58,5 @@ only_less_behind N t at x root c h b = go (begun_opening N t at (behind root) x 
 
 -- and in content with `<` or `&`
 pub no_markup : (N : ℕ) (t : Element) (levels : ℕ) (p : Element) (outer : List Element) (x : ℕ) (c : List ℕ) → (x == 60) ≡ false → (x == 38) ≡ false
-    → Marked (Behind N t (suc levels) outer) N levels p (x ∷ c) → ⊥
-no_markup N t levels p outer x c h k m = no_item N t m.at (within levels p outer) x c h k (marked_begun N t levels m.at p outer (x ∷ c) m.offset m)
+    → Marked (BehindElement N t (suc levels) outer) N levels p (x ∷ c) → ⊥
+no_markup N t levels p outer x c h k m = no_piece N t m.at (within levels p outer) x c h k (marked_begun N t levels m.at p outer (x ∷ c) m.offset m)

@@ -9,10 +9,10 @@ use Rattle.pn_markup.specs.Misc.{nothing}
 use Rattle.pn_markup.specs.Tags.{Tag, named, none}
 use Rattle.pn_markup.specs.Content as content
 use Rattle.pn_markup.specs.Content.{Spells}
-use Rattle.pn_scan.specs.State.{Place, before, within, behind, no_bracket}
-use Rattle.pn_scan.specs.Rest.{Body, Marked, Running, Behind, Resumed, closes_empty, TagMore, tag_ends}
-use Rattle.pn_scan.specs.Viable.{AreTexts, OfPlace}
-use Rattle.pn_scan.proofs.PieceLemmas.{name_kept}
+use Rattle.pn_scan.specs.State.{Nesting, before, within, behind, no_bracket}
+use Rattle.pn_scan.specs.Rest.{Body, Marked, Running, BehindElement, Resumed, closes_empty, TagMore, tag_ends}
+use Rattle.pn_scan.specs.Viable.{AreTexts, OfNesting}
+use Rattle.pn_scan.proofs.ElementLemmas.{name_kept}
 
 -- a tree for which R holds of these bytes
 abbrev pub Some-tree : (Element → Type 0) → Type 0
@@ -37,11 +37,11 @@ marked_closes K N levels p rest k h =
     let c = codes "</" ++ (p.name ++ (codes ">" ++ rest)) in
     record {
       complete = p;
-      items = [];
+      pieces = [];
       close = codes "</" ++ (p.name ++ codes ">");
       rest = rest;
       at = N - length c;
-      are_items = content.nothing (N - length c) p p [] refl refl;
+      are_pieces = content.nothing (N - length c) p p [] refl refl;
       is_close = ([], refl, refl);
       goes_on = k;
       offset = omega (arith, h);
@@ -56,16 +56,16 @@ running_closes K N levels p rest k h =
 pub inner_length : (name rest : List ℕ) (N : ℕ) → length (codes "</" ++ (name ++ (codes ">" ++ rest))) ≤ N → length rest ≤ N
 inner_length name rest N h = omega (arith, h, length-append name (codes ">" ++ rest))
 
-pub behind_closes : (outer : List Element) (levels : ℕ) (e : Element) (N : ℕ) → length (closings outer) ≤ N → Some-tree (λ t. Behind N t levels outer e (closings outer))
+pub behind_closes : (outer : List Element) (levels : ℕ) (e : Element) (N : ℕ) → length (closings outer) ≤ N → Some-tree (λ t. BehindElement N t levels outer e (closings outer))
 behind_closes [] levels e N h = (e, (refl, nothing [] refl))
 behind_closes (p ∷ ps) levels e N h =
     let r = behind_closes ps (suc levels) (with_kid (children.Element e) p) N (inner_length p.name (closings ps) N h) in
-    (r.0, running_closes (Behind N r.0 (suc levels) ps) N levels (with_kid (children.Element e) p) (closings ps) r.1 h)
+    (r.0, running_closes (BehindElement N r.0 (suc levels) ps) N levels (with_kid (children.Element e) p) (closings ps) r.1 h)
 
-pub marked_all : (outer : List Element) (levels : ℕ) (e : Element) (N : ℕ) → length (closings (e ∷ outer)) ≤ N → Some-tree (λ t. Marked (Behind N t (suc levels) outer) N levels e (closings (e ∷ outer)))
+pub marked_all : (outer : List Element) (levels : ℕ) (e : Element) (N : ℕ) → length (closings (e ∷ outer)) ≤ N → Some-tree (λ t. Marked (BehindElement N t (suc levels) outer) N levels e (closings (e ∷ outer)))
 marked_all outer levels e N h =
     let r = behind_closes outer (suc levels) e N (inner_length e.name (closings outer) N h) in
-    (r.0, marked_closes (Behind N r.0 (suc levels) outer) N levels e (closings outer) r.1 h)
+    (r.0, marked_closes (BehindElement N r.0 (suc levels) outer) N levels e (closings outer) r.1 h)
 
 -- a root of its own
 pub body_closes : (N : ℕ) → 4 ≤ N → Some-tree (λ t. Body N t (codes "<a/>"))
@@ -87,23 +87,23 @@ body_closes N h =
       },
     )
 
--- what closes all at a place
-abbrev pub place_closing : Place → List ℕ
-place_closing before = codes "<a/>"
-place_closing (within levels e outer) = closings (e ∷ outer)
-place_closing (behind root) = []
+-- what closes all in a nesting
+abbrev pub nesting_closing : Nesting → List ℕ
+nesting_closing before = codes "<a/>"
+nesting_closing (within levels e outer) = closings (e ∷ outer)
+nesting_closing (behind root) = []
 
-pub place_text : (place : Place) → OfPlace place → is_text (place_closing place) ≡ true
-place_text before v = refl
-place_text (within levels e outer) v = closings_text (e ∷ outer) v
-place_text (behind root) v = refl
+pub nesting_text : (nesting : Nesting) → OfNesting nesting → is_text (nesting_closing nesting) ≡ true
+nesting_text before v = refl
+nesting_text (within levels e outer) v = closings_text (e ∷ outer) v
+nesting_text (behind root) v = refl
 
-pub resumed_closes : (place : Place) (N : ℕ) → length (place_closing place) ≤ N → Some-tree (λ t. Resumed N t place (place_closing place))
+pub resumed_closes : (nesting : Nesting) (N : ℕ) → length (nesting_closing nesting) ≤ N → Some-tree (λ t. Resumed N t nesting (nesting_closing nesting))
 resumed_closes before N h = body_closes N h
 resumed_closes (behind root) N h = (root, (refl, nothing [] refl))
 resumed_closes (within levels e outer) N h =
     let r = behind_closes outer (suc levels) e N (inner_length e.name (closings outer) N h) in
-    (r.0, running_closes (Behind N r.0 (suc levels) outer) N levels e (closings outer) r.1 h)
+    (r.0, running_closes (BehindElement N r.0 (suc levels) outer) N levels e (closings outer) r.1 h)
 
 -- what closes a tag and all around it
 pub tag_closes : (levels : ℕ) (outer : List Element) (e : Element) (spaced : Bool) (N : ℕ) → length (closings outer) ≤ N

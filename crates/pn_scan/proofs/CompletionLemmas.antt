@@ -17,15 +17,16 @@ use Rattle.pn_markup.specs.Misc.{nothing, is_xml}
 use Rattle.pn_markup.specs.References.{is_digit, Entity, lt, gt, amp, apos, quot, entity_text, number_behind, entity}
 use Rattle.pn_markup.specs.Tags.{AttValue, Eq, named, none, run}
 use Rattle.pn_markup.specs.Declaration.{is_version, is_encoding, is_standalone, are_digits}
-use Rattle.pn_scan.specs.State.{Place, before, within, behind, Holder, of_content, of_value, Part, version, encoding, standalone, Stage, all_due, from_encoding, from_standalone, none_due, Brackets, no_bracket, one_bracket, two_brackets, State, at_start, outside, at_end, in_run, at_markup, at_bang, in_comment, in_target, in_instruction, in_section, in_name, in_tag, in_attribute, before_equals, behind_equals, in_value, at_reference, in_entity, at_number, in_number, due, in_end, in_declaration, before_part_equals, behind_part_equals, in_part}
+use Rattle.pn_scan.specs.State.{Nesting, before, within, behind, Holder, of_content, of_value, Part, version, encoding, standalone, Stage, all_due, from_encoding, from_standalone, none_due, Brackets, no_bracket, one_bracket, two_brackets, State, at_start, outside, at_end, in_run, at_markup, at_bang, in_comment, in_target, in_instruction, in_section, in_name, in_tag, in_attribute, before_equals, behind_equals, in_value, at_reference, in_entity, at_number, in_number, due, in_end, in_declaration, before_part_equals, behind_part_equals, in_part}
 use Rattle.pn_scan.specs.Rest.{Rest, SpaceOr, Body, Resumed, Held, closes_empty, begun, a_comment, an_end, a_tag, bang_comment, names_instruction, DeclarationMore, closes, one_part, is_part_value, stage_behind, may_end, ValueMore, last_run}
-use Rattle.pn_scan.specs.Step.{is_entity_front, is_part_front}
-use Rattle.pn_scan.specs.Viable.{IsViable, AreTexts, OfPlace, OfHolder, MaybeName, OfNumber}
+use Rattle.pn_scan.specs.NextState.{is_entity_front, is_part_front}
+use Rattle.pn_scan.specs.Viable.{IsViable, AreTexts, OfNesting, OfHolder, MaybeName, OfNumber}
 use Rattle.pn_scan.proofs.Spans.{all_append_right, name_more}
 use Rattle.pn_scan.proofs.RunLaws.{over_comes}
 use Rattle.pn_scan.proofs.CharacterLemmas.{character_in}
 use Rattle.pn_scan.proofs.ReferenceLaws.{full_name, begins_rest}
-use Rattle.pn_scan.proofs.ClosingLemmas.{Some-tree, closings, closings_text, closings_name, marked_all, behind_closes, body_closes, place_closing, place_text, resumed_closes, tag_closes}
+use Rattle.pn_scan.proofs.ClosingLemmas.{Some-tree, closings, closings_text, closings_name, marked_all, behind_closes, body_closes, nesting_closing, nesting_text, resumed_closes, tag_closes}
+use Rattle.pn_scan.proofs.PartLemmas.{lower_append}
 
 -- bytes that complete a state, at an offset, behind the open bytes p
 pub record Completes (s : State) (at : ℕ) (p : List ℕ) : Type 0 where
@@ -195,7 +196,7 @@ record Digits (base n : ℕ) (any : Bool) : Type 0 where
   are : list_all (is_digit base) digits ≡ true
   character : is_character (number_behind base n digits) ≡ true
 
-no_list : (x : ℕ) (xs : List ℕ) → x ∷ xs ≡ [] → ⊥
+pub no_list : (x : ℕ) (xs : List ℕ) → x ∷ xs ≡ [] → ⊥
 no_list x xs h = cc
 
 small_digits : (base n : ℕ) (any : Bool) → (base ≡ 10) ⊎ (base ≡ 16) → n < 32 → Digits base n any
@@ -341,9 +342,6 @@ of_entity holder at part v front =
 
 -- the declaration
 
-root_body : (N : ℕ) (a : List ℕ) (at : ℕ) → at + length (a ++ codes "<a/>") ≡ N → Some-tree (λ t. Body N t (codes "<a/>"))
-root_body N a at h = body_closes N (long a (codes "<a/>") N at h)
-
 ended : (N : ℕ) (t : Element) (p : Part) → Body N t (codes "<a/>") → DeclarationMore (Body N t) (stage_behind p) false (codes "?><a/>")
 ended N t p b = closes (stage_behind p) false (codes "?><a/>") [] (codes "<a/>") (may p) refl b refl
   where
@@ -365,10 +363,6 @@ two_words v w b h i j = go (or_cases (begins_with b v) (begins_with b w) h)
     go : (begins_with b v ≡ true) ⊎ (begins_with b w ≡ true) → (more : List ℕ) × ((b ++ more ≡ v) ⊎ (b ++ more ≡ w)) × (is_text more ≡ true)
     go (inl k) = let r = begins_rest b v k in (r.0, inl r.1, is_text-ascii r.0 (all_append_right (is_within 32 126) b r.0 (subst (λ l. list_all (is_within 32 126) l ≡ true) (sym r.1) i)))
     go (inr k) = let r = begins_rest b w k in (r.0, inr r.1, is_text-ascii r.0 (all_append_right (is_within 32 126) b r.0 (subst (λ l. list_all (is_within 32 126) l ≡ true) (sym r.1) j)))
-
-lower_append : (a b : List ℕ) → map to_ascii_lowercase (a ++ b) ≡ map to_ascii_lowercase a ++ map to_ascii_lowercase b
-lower_append [] b = refl
-lower_append (x ∷ a) b = ap (λ l. to_ascii_lowercase x ∷ l) (lower_append a b)
 
 -- small letters stay
 lower_suffix : (a b w : List ℕ) → map to_ascii_lowercase w ≡ w → a ++ b ≡ w → map to_ascii_lowercase b ≡ b
@@ -488,7 +482,7 @@ of_declaration none_due at spaced =
       rest = λ N h. let b = body_closes N (long (codes "?>") (codes "<a/>") N at h) in (b.0, closes none_due spaced (codes "?><a/>") [] (codes "<a/>") refl refl b.1 refl);
     }
 
--- items
+-- pieces of content
 
 of_run : (at levels : ℕ) (e : Element) (outer : List Element) (text : List ℕ) (b : Brackets) (cr : Bool) → AreTexts (e ∷ outer) → Completes (in_run levels e outer text b cr) at []
 of_run at levels e outer text b cr v =
@@ -499,53 +493,53 @@ of_run at levels e outer text b cr v =
           (r.0, subst (Rest (in_run levels e outer text b cr) N r.0) (closings_name text e outer) (over_comes levels e outer text b cr N r.0 (closings (with_text text e ∷ outer)) r.1));
     }
 
-of_comment : (at : ℕ) (place : Place) (dash : Bool) → OfPlace place → Completes (in_comment place dash) at []
-of_comment at place true v =
+of_comment : (at : ℕ) (nesting : Nesting) (dash : Bool) → OfNesting nesting → Completes (in_comment nesting dash) at []
+of_comment at nesting true v =
     record {
-      c = codes "->" ++ place_closing place;
-      is_text = is_text-append (codes "->") (place_closing place) refl (place_text place v);
-      rest = λ N h. let r = resumed_closes place N (long (codes "->") (place_closing place) N at h) in
-          (r.0, record { text = []; rest = 62 ∷ place_closing place; good = refl; goes_on = (place_closing place, r.1, refl); whole = refl });
+      c = codes "->" ++ nesting_closing nesting;
+      is_text = is_text-append (codes "->") (nesting_closing nesting) refl (nesting_text nesting v);
+      rest = λ N h. let r = resumed_closes nesting N (long (codes "->") (nesting_closing nesting) N at h) in
+          (r.0, record { text = []; rest = 62 ∷ nesting_closing nesting; good = refl; goes_on = (nesting_closing nesting, r.1, refl); whole = refl });
     }
-of_comment at place false v =
+of_comment at nesting false v =
     record {
-      c = codes "-->" ++ place_closing place;
-      is_text = is_text-append (codes "-->") (place_closing place) refl (place_text place v);
-      rest = λ N h. let r = resumed_closes place N (long (codes "-->") (place_closing place) N at h) in
-          (r.0, record { text = []; rest = 62 ∷ place_closing place; good = refl; goes_on = (place_closing place, r.1, refl); whole = refl });
-    }
-
-of_bang : (at : ℕ) (place : Place) → OfPlace place → Completes (at_bang place) at []
-of_bang at place v =
-    record {
-      c = codes "---->" ++ place_closing place;
-      is_text = is_text-append (codes "---->") (place_closing place) refl (place_text place v);
-      rest = λ N h. let r = resumed_closes place N (long (codes "---->") (place_closing place) N at h) in
-          (r.0, bang_comment (codes "-->" ++ place_closing place) (record { text = []; rest = 62 ∷ place_closing place; good = refl; goes_on = (place_closing place, r.1, refl); whole = refl }) refl);
+      c = codes "-->" ++ nesting_closing nesting;
+      is_text = is_text-append (codes "-->") (nesting_closing nesting) refl (nesting_text nesting v);
+      rest = λ N h. let r = resumed_closes nesting N (long (codes "-->") (nesting_closing nesting) N at h) in
+          (r.0, record { text = []; rest = 62 ∷ nesting_closing nesting; good = refl; goes_on = (nesting_closing nesting, r.1, refl); whole = refl });
     }
 
-of_instruction : (at : ℕ) (place : Place) (question : Bool) → OfPlace place → Completes (in_instruction place question) at []
-of_instruction at place true v =
+of_bang : (at : ℕ) (nesting : Nesting) → OfNesting nesting → Completes (at_bang nesting) at []
+of_bang at nesting v =
     record {
-      c = codes ">" ++ place_closing place;
-      is_text = is_text-append (codes ">") (place_closing place) refl (place_text place v);
-      rest = λ N h. let r = resumed_closes place N (long (codes ">") (place_closing place) N at h) in
-          (r.0, record { text = []; rest = place_closing place; good = refl; goes_on = r.1; whole = refl });
+      c = codes "---->" ++ nesting_closing nesting;
+      is_text = is_text-append (codes "---->") (nesting_closing nesting) refl (nesting_text nesting v);
+      rest = λ N h. let r = resumed_closes nesting N (long (codes "---->") (nesting_closing nesting) N at h) in
+          (r.0, bang_comment (codes "-->" ++ nesting_closing nesting) (record { text = []; rest = 62 ∷ nesting_closing nesting; good = refl; goes_on = (nesting_closing nesting, r.1, refl); whole = refl }) refl);
     }
-of_instruction at place false v =
+
+of_instruction : (at : ℕ) (nesting : Nesting) (question : Bool) → OfNesting nesting → Completes (in_instruction nesting question) at []
+of_instruction at nesting true v =
     record {
-      c = codes "?>" ++ place_closing place;
-      is_text = is_text-append (codes "?>") (place_closing place) refl (place_text place v);
-      rest = λ N h. let r = resumed_closes place N (long (codes "?>") (place_closing place) N at h) in
-          (r.0, record { text = []; rest = place_closing place; good = refl; goes_on = r.1; whole = refl });
+      c = codes ">" ++ nesting_closing nesting;
+      is_text = is_text-append (codes ">") (nesting_closing nesting) refl (nesting_text nesting v);
+      rest = λ N h. let r = resumed_closes nesting N (long (codes ">") (nesting_closing nesting) N at h) in
+          (r.0, record { text = []; rest = nesting_closing nesting; good = refl; goes_on = r.1; whole = refl });
+    }
+of_instruction at nesting false v =
+    record {
+      c = codes "?>" ++ nesting_closing nesting;
+      is_text = is_text-append (codes "?>") (nesting_closing nesting) refl (nesting_text nesting v);
+      rest = λ N h. let r = resumed_closes nesting N (long (codes "?>") (nesting_closing nesting) N at h) in
+          (r.0, record { text = []; rest = nesting_closing nesting; good = refl; goes_on = r.1; whole = refl });
     }
 
 section_rest : (levels : ℕ) (e : Element) (outer : List Element) (text : List ℕ) (cr : Bool) (N : ℕ) → length (closings (e ∷ outer)) ≤ N
     → Some-tree (λ t. Resumed N t (within levels (with_text (text ++ line_ends_behind cr []) e) outer) (closings (e ∷ outer)))
 section_rest levels e outer text cr N h =
-    let place = within levels (with_text (text ++ line_ends_behind cr []) e) outer in
+    let nesting = within levels (with_text (text ++ line_ends_behind cr []) e) outer in
     let same = closings_name (text ++ line_ends_behind cr []) e outer in
-    subst (λ l. Some-tree (λ t. Resumed N t place l)) same (resumed_closes place N (subst (λ l. length l ≤ N) (sym same) h))
+    subst (λ l. Some-tree (λ t. Resumed N t nesting l)) same (resumed_closes nesting N (subst (λ l. length l ≤ N) (sym same) h))
 
 of_section : (at levels : ℕ) (e : Element) (outer : List Element) (text : List ℕ) (b : Brackets) (cr : Bool) → AreTexts (e ∷ outer) → Completes (in_section levels e outer text b cr) at []
 of_section at levels e outer text no_bracket cr v =
@@ -587,20 +581,20 @@ not_xml name = false_from_ne_true (is_xml (name ++ codes "a")) (λ h. go (map to
         nothing [] e = no_list 97 [] e
         nothing (w ∷ l) e = no_list w (l ++ codes "a") e
 
-of_target : (at : ℕ) (first : Bool) (place : Place) (name p : List ℕ) → OfPlace place → MaybeName name p → Completes (in_target first place name) at []
-of_target at first place name p v m =
+of_target : (at : ℕ) (first : Bool) (nesting : Nesting) (name p : List ℕ) → OfNesting nesting → MaybeName name p → Completes (in_target first nesting name) at []
+of_target at first nesting name p v m =
     record {
-      c = codes "a?>" ++ place_closing place;
-      is_text = is_text-append (codes "a?>") (place_closing place) refl (place_text place v);
-      rest = λ N h. let r = resumed_closes place N (long (codes "a?>") (place_closing place) N at h) in
-          (r.0, names_instruction (codes "a") [] (place_closing place) (is_name name m) (not_xml name) refl r.1 refl);
+      c = codes "a?>" ++ nesting_closing nesting;
+      is_text = is_text-append (codes "a?>") (nesting_closing nesting) refl (nesting_text nesting v);
+      rest = λ N h. let r = resumed_closes nesting N (long (codes "a?>") (nesting_closing nesting) N at h) in
+          (r.0, names_instruction (codes "a") [] (nesting_closing nesting) (is_name name m) (not_xml name) refl r.1 refl);
     }
   where
     is_name : (name : List ℕ) → MaybeName name p → Name (name ++ codes "a")
     is_name [] m = refl
     is_name (n ∷ ns) m = name_more n ns 97 m refl
 
-of_markup : (at : ℕ) (first : Bool) (place : Place) (begin : ℕ) → OfPlace place → at ≡ suc begin → Completes (at_markup first place begin) at []
+of_markup : (at : ℕ) (first : Bool) (nesting : Nesting) (begin : ℕ) → OfNesting nesting → at ≡ suc begin → Completes (at_markup first nesting begin) at []
 of_markup at first before begin v i =
     record {
       c = codes "a/>";
@@ -637,21 +631,21 @@ of_markup at first (behind root) begin v i =
 
 -- a state with no open bytes
 
-whole_place : (N at : ℕ) → at + 4 ≡ N → 4 ≤ N
-whole_place N at h = omega arith
+whole_nesting : (N at : ℕ) → at + 4 ≡ N → 4 ≤ N
+whole_nesting N at h = omega arith
 
 pub completes : (s : State) (at : ℕ) → IsViable s at [] → Completes s at []
 completes at_start at v =
-    record { c = codes "<a/>"; is_text = refl; rest = λ N h. let b = body_closes N (whole_place N at h) in (b.0, ([], codes "<a/>", tt, ([], codes "<a/>", tt, b.1, refl), refl)) }
-completes (outside true) at v = record { c = codes "<a/>"; is_text = refl; rest = λ N h. let b = body_closes N (whole_place N at h) in (b.0, ([], codes "<a/>", tt, b.1, refl)) }
-completes (outside false) at v = record { c = codes "<a/>"; is_text = refl; rest = λ N h. body_closes N (whole_place N at h) }
+    record { c = codes "<a/>"; is_text = refl; rest = λ N h. let b = body_closes N (whole_nesting N at h) in (b.0, ([], codes "<a/>", tt, ([], codes "<a/>", tt, b.1, refl), refl)) }
+completes (outside true) at v = record { c = codes "<a/>"; is_text = refl; rest = λ N h. let b = body_closes N (whole_nesting N at h) in (b.0, ([], codes "<a/>", tt, b.1, refl)) }
+completes (outside false) at v = record { c = codes "<a/>"; is_text = refl; rest = λ N h. body_closes N (whole_nesting N at h) }
 completes (at_end root) at v = record { c = []; is_text = refl; rest = λ N h. (root, (refl, nothing [] refl)) }
 completes (in_run levels e outer text b cr) at v = of_run at levels e outer text b cr v.0
-completes (at_markup first place begin) at v = of_markup at first place begin v.0 v.2
-completes (at_bang place) at v = of_bang at place v.0
-completes (in_comment place dash) at v = of_comment at place dash v
-completes (in_target first place name) at v = of_target at first place name [] v.0 v.1
-completes (in_instruction place question) at v = of_instruction at place question v
+completes (at_markup first nesting begin) at v = of_markup at first nesting begin v.0 v.2
+completes (at_bang nesting) at v = of_bang at nesting v.0
+completes (in_comment nesting dash) at v = of_comment at nesting dash v
+completes (in_target first nesting name) at v = of_target at first nesting name [] v.0 v.1
+completes (in_instruction nesting question) at v = of_instruction at nesting question v
 completes (in_section levels e outer text b cr) at v = of_section at levels e outer text b cr v.0
 completes (in_name levels outer begin name) at v = of_name levels outer at begin name v.0 v.1
 completes (in_tag levels outer e spaced) at v = of_tag levels outer at e spaced v.0.1

@@ -7,7 +7,7 @@ use Rattle.pn_markup.specs.Declaration.{Declared, Maybe, XMLDecl, is_encoding, i
 use Rattle.pn_tree.specs.declared.element.Element.{Element}
 use Rattle.pn_scan.specs.State.{Part, Stage, version, encoding, standalone, all_due, from_encoding, from_standalone, none_due, outside, due, in_declaration, before_part_equals, behind_part_equals, in_part}
 use Rattle.pn_scan.specs.Rest.{Rest, Body, SpaceOr, word_of, is_part_value, may_come, may_end, stage_behind, DeclarationMore, closes, one_part, PartEquals, PartValue}
-use Rattle.pn_scan.specs.Step.{step, step_declaration, part_begins, step_part, is_part_front}
+use Rattle.pn_scan.specs.NextState.{next_state, next_in_declaration, part_begins, next_in_part, is_part_front}
 use Rattle.pn_scan.proofs.Tools.{Law, law_if, law_some, law_none, law_at, head_is, tail_is, differs, apart}
 use Rattle.pn_scan.proofs.Spans.{span_in, span_out, Front, here, there, front_of, all_more, space_maybe, space_more, quote_no_space}
 use Rattle.pn_scan.proofs.PartLemmas.{value_front, front_prefix, front_last}
@@ -328,7 +328,7 @@ module _ (stage : Stage) where
   close_goes spaced N t c (at_close rest i may k w) = (rest, k, w)
   close_goes spaced N t c (at_part p rest sp i may m w) = absurd (no_mark p (sym i))
 
-  pub law_declaration : (spaced : Bool) (at x : ℕ) → Law (Rest (in_declaration stage spaced)) at x (step_declaration stage spaced x)
+  pub law_declaration : (spaced : Bool) (at x : ℕ) → Law (Rest (in_declaration stage spaced)) at x (next_in_declaration stage spaced x)
   law_declaration spaced at x =
       let R = Rest (in_declaration stage spaced) in
       let closed = Some (due (codes ">") (outside false)) in
@@ -351,7 +351,7 @@ module _ (p : Part) where
   equals_is K c m =
       let v = m.quote ∷ (m.value ++ (m.quote ∷ m.rest)) in m.whole ∙ ap (λ l. l ++ v) m.is_equals.4 ∙ append_assoc m.is_equals.0 (61 ∷ m.is_equals.1) v
 
-  pub law_before_part : (at x : ℕ) → Law (Rest (before_part_equals p)) at x (step (before_part_equals p) at x)
+  pub law_before_part : (at x : ℕ) → Law (Rest (before_part_equals p)) at x (next_state (before_part_equals p) at x)
   law_before_part at x =
       let R = Rest (before_part_equals p) in
       law_if R at x (is_space x) (Some (before_part_equals p)) (cond (x == 61) (Some (behind_part_equals p)) None)
@@ -409,7 +409,7 @@ module _ (p : Part) where
       (λ k. law_none R at x (λ N t c m. let v = m.quote ∷ (m.value ++ (m.quote ∷ m.rest)) in
       differs x 61 c (m.is_equals.1 ++ v) k (sym (span_out is_space x c m.is_equals.0 (61 ∷ (m.is_equals.1 ++ v)) m.is_equals.2 h (equals_is (Body N t) (x ∷ c) m)).1))))
 
-  pub law_behind_part : (at x : ℕ) → Law (Rest (behind_part_equals p)) at x (step (behind_part_equals p) at x)
+  pub law_behind_part : (at x : ℕ) → Law (Rest (behind_part_equals p)) at x (next_state (behind_part_equals p) at x)
   law_behind_part at x =
       let R = Rest (behind_part_equals p) in
       law_if R at x (is_space x) (Some (behind_part_equals p)) (cond (is_quote x) (Some (in_part p x [])) None)
@@ -463,7 +463,7 @@ module _ (p : Part) where
           let good = subst (λ l. is_part_value p (value ++ l) ≡ true) i m.good in
           (next_front value x more good, record { more = more; rest = m.rest; good = subst (λ l. is_part_value p l ≡ true) (sym (append_assoc value (x ∷ []) more)) good; goes_on = m.goes_on; whole = j })
 
-  pub law_part : (quote : ℕ) (value : List ℕ) → is_quote quote ≡ true → (at x : ℕ) → Law (Rest (in_part p quote value)) at x (step_part p quote value x)
+  pub law_part : (quote : ℕ) (value : List ℕ) → is_quote quote ≡ true → (at x : ℕ) → Law (Rest (in_part p quote value)) at x (next_in_part p quote value x)
   law_part quote value q at x =
       let R = Rest (in_part p quote value) in
       let ended = cond (is_part_value p value) (Some (in_declaration (stage_behind p) false)) None in

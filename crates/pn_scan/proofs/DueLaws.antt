@@ -4,8 +4,8 @@ use Rattle.std.proofs.lemmas.Bool.{eqb-true, eqb-false}
 use Rattle.pn_markup.specs.Bytes.{is_space}
 use Rattle.pn_tree.specs.declared.element.Element.{Element}
 use Rattle.pn_scan.specs.State.{State, due, in_end, behind_element}
-use Rattle.pn_scan.specs.Rest.{Rest, Behind}
-use Rattle.pn_scan.specs.Step.{step, step_due, goes_due}
+use Rattle.pn_scan.specs.Rest.{Rest, BehindElement}
+use Rattle.pn_scan.specs.NextState.{next_state, next_due, goes_due}
 use Rattle.pn_scan.proofs.Tools.{Law, law_if, law_some, law_none, law_at, head_is, tail_is, differs, apart}
 use Rattle.pn_scan.proofs.Spans.{span_in, span_out, all_more}
 
@@ -18,7 +18,7 @@ pub due_comes : (bs : List ℕ) (s : State) (N : ℕ) (t : Element) (c : List �
 due_comes [] s N t c r = (c, r, refl)
 due_comes (b ∷ bs) s N t c r = r
 
-pub law_due : (b : ℕ) (bs : List ℕ) (s : State) (at x : ℕ) → Law (Rest (due (b ∷ bs) s)) at x (step_due (b ∷ bs) s x)
+pub law_due : (b : ℕ) (bs : List ℕ) (s : State) (at x : ℕ) → Law (Rest (due (b ∷ bs) s)) at x (next_due (b ∷ bs) s x)
 law_due b bs s at x =
     let R = Rest (due (b ∷ bs) s) in
     law_if R at x (b == x) (Some (goes_due bs s)) None
@@ -28,15 +28,15 @@ law_due b bs s at x =
     (λ h. law_none R at x (λ N t c r. eqb-false b x h (sym (head_is x b c (bs ++ r.0) r.2))))
 
 -- behind an element it goes on as its state says
-pub behind_goes : (levels : ℕ) (outer : List Element) (e : Element) (N : ℕ) (t : Element) (c : List ℕ) → Behind N t levels outer e c → Rest (behind_element levels outer e) N t c
+pub behind_goes : (levels : ℕ) (outer : List Element) (e : Element) (N : ℕ) (t : Element) (c : List ℕ) → BehindElement N t levels outer e c → Rest (behind_element levels outer e) N t c
 behind_goes levels [] e N t c r = r
 behind_goes levels (p ∷ ps) e N t c r = r
 
-pub behind_comes : (levels : ℕ) (outer : List Element) (e : Element) (N : ℕ) (t : Element) (c : List ℕ) → Rest (behind_element levels outer e) N t c → Behind N t levels outer e c
+pub behind_comes : (levels : ℕ) (outer : List Element) (e : Element) (N : ℕ) (t : Element) (c : List ℕ) → Rest (behind_element levels outer e) N t c → BehindElement N t levels outer e c
 behind_comes levels [] e N t c r = r
 behind_comes levels (p ∷ ps) e N t c r = r
 
-pub law_end : (levels : ℕ) (e : Element) (outer : List Element) (at x : ℕ) → Law (Rest (in_end levels e outer)) at x (step (in_end levels e outer) at x)
+pub law_end : (levels : ℕ) (e : Element) (outer : List Element) (at x : ℕ) → Law (Rest (in_end levels e outer)) at x (next_state (in_end levels e outer) at x)
 law_end levels e outer at x =
     let R = Rest (in_end levels e outer) in
     let ended = Some (behind_element (suc levels) outer e) in
@@ -47,6 +47,6 @@ law_end levels e outer at x =
     (λ h. law_if R at x (x == 62) ended None
     (λ k. law_at R at x 62 ended k (law_some R at 62 (behind_element (suc levels) outer e)
     (λ N t c r. let w = span_out is_space 62 c r.0 (62 ∷ r.1) r.2 refl r.4 in
-    behind_goes (suc levels) outer e N t c (subst (Behind N t (suc levels) outer e) (tail_is 62 62 r.1 c w.1) r.3))
+    behind_goes (suc levels) outer e N t c (subst (BehindElement N t (suc levels) outer e) (tail_is 62 62 r.1 c w.1) r.3))
     (λ N t c r. ([], c, refl, behind_comes (suc levels) outer e N t c r, refl))))
     (λ k. law_none R at x (λ N t c r. let w = span_out is_space x c r.0 (62 ∷ r.1) r.2 h r.4 in differs x 62 c r.1 k (sym w.1))))

@@ -8,9 +8,9 @@ use Rattle.pn_markup.specs.References as references
 use Rattle.pn_markup.specs.Tags.{ETag, AttValue, named}
 use Rattle.pn_markup.specs.Content as content
 use Rattle.pn_markup.specs.Content.{ElementOver, Spells}
-use Rattle.pn_scan.specs.State.{Place, within, Stage, all_due, Brackets, no_bracket, one_bracket, two_brackets, State, at_start, outside, at_end, in_run, at_markup, at_bang, in_comment, in_target, in_instruction, in_section, in_name, in_tag, in_attribute, before_equals, behind_equals, in_value, at_reference, in_entity, at_number, in_number, due, in_end, in_declaration, before_part_equals, behind_part_equals, in_part}
-use Rattle.pn_scan.specs.Rest.{Rest, Body, Begin, Running, Behind, Resumed, Held, TagEnd, opens, closes_empty, TagMore, tag_ends, one_attribute, BangMore, bang_comment, bang_section, MarkupMore, begun, may_declare, Begun, a_comment, an_instruction, a_section, a_reference, an_end, a_tag, TargetMore, names_instruction, names_declaration, DeclarationMore, closes, one_part, Until, is_comment, dashes, questions, brackets, word_of, NumberMore, EntityMore}
-use Rattle.pn_scan.specs.Step.{entity_of}
+use Rattle.pn_scan.specs.State.{Nesting, within, Stage, all_due, Brackets, no_bracket, one_bracket, two_brackets, State, at_start, outside, at_end, in_run, at_markup, at_bang, in_comment, in_target, in_instruction, in_section, in_name, in_tag, in_attribute, before_equals, behind_equals, in_value, at_reference, in_entity, at_number, in_number, due, in_end, in_declaration, before_part_equals, behind_part_equals, in_part}
+use Rattle.pn_scan.specs.Rest.{Rest, Body, Begin, Running, BehindElement, Resumed, Held, TagEnd, opens, closes_empty, TagMore, tag_ends, one_attribute, BangMore, bang_comment, bang_section, MarkupMore, begun, may_declare, Begun, a_comment, an_instruction, a_section, a_reference, an_end, a_tag, TargetMore, names_instruction, names_declaration, DeclarationMore, closes, one_part, Until, is_comment, dashes, questions, brackets, word_of, NumberMore, EntityMore}
+use Rattle.pn_scan.specs.NextState.{entity_of}
 use Rattle.pn_scan.specs.Viable.{IsViable}
 use Rattle.pn_scan.proofs.Tools.{tail_is, differs}
 use Rattle.pn_scan.proofs.Spans.{name_parts}
@@ -51,7 +51,7 @@ running_none : (K : Element → List ℕ → Type 0) (N levels : ℕ) (p : Eleme
 running_none K N levels p text b cr r =
     let m = r.goes_on in
     let i = both_none r.run r.rest r.whole in
-    let j = both_none m.items (m.close ++ m.rest) (sym i.1 ∙ m.whole) in
+    let j = both_none m.pieces (m.close ++ m.rest) (sym i.1 ∙ m.whole) in
     let k = both_none m.close m.rest (sym j.1) in
     close_none (with_text (text ++ line_ends_behind cr r.run) p).name m.close m.is_close k.0
 
@@ -101,13 +101,13 @@ reference_none text bytes rest (references.decimal _ _ c digits n i j) w =
 reference_none text bytes rest (references.hexadecimal _ _ c digits n i j) w =
     no_list 35 (120 ∷ ((digits ++ codes ";") ++ rest)) (tail_is 38 38 [] (35 ∷ 120 ∷ ((digits ++ codes ";") ++ rest)) (w ∙ ap (λ l. l ++ rest) j))
 
-begun_none : (N : ℕ) (t : Element) (at : ℕ) (place : Place) (c : List ℕ) → Begun N t at place c → c ≡ 60 ∷ [] → ⊥
-begun_none N t at place c b h = go place c b h
+begun_none : (N : ℕ) (t : Element) (at : ℕ) (nesting : Nesting) (c : List ℕ) → Begun N t at nesting c → c ≡ 60 ∷ [] → ⊥
+begun_none N t at nesting c b h = go nesting c b h
   where
     second : (bytes rest more : List ℕ) (k : ℕ) (c : List ℕ) → c ≡ 60 ∷ [] → c ≡ bytes ++ rest → bytes ≡ 60 ∷ k ∷ more → ⊥
     second bytes rest more k c h w i = no_list k (more ++ rest) (tail_is 60 60 [] (k ∷ (more ++ rest)) (sym h ∙ w ∙ ap (λ l. l ++ rest) i))
 
-    go : (p : Place) (d : List ℕ) → Begun N t at p d → d ≡ 60 ∷ [] → ⊥
+    go : (p : Nesting) (d : List ℕ) → Begun N t at p d → d ≡ 60 ∷ [] → ⊥
     go p d (a_comment _ _ bytes rest m r w) h = second bytes rest (codes "--" ++ (m.0 ++ codes "-->")) 33 d h w m.2
     go p d (an_instruction _ _ bytes rest m r w) h = second bytes rest (m.target ++ (m.text ++ codes "?>")) 63 d h w m.whole
     go p d (a_section _ _ l f es raw bytes rest i s r w) h = second bytes rest (codes "[CDATA[" ++ (raw ++ codes "]]>")) 33 d h w s.1
@@ -117,17 +117,17 @@ begun_none N t at place c b h = go place c b h
     go p d (a_tag _ _ l es f bytes rest i s r w) h =
         let n = name_parts s.name s.is_name in second bytes rest (n.more ++ s.attributes) n.first d h w (s.whole ∙ ap (λ l. 60 ∷ (l ++ s.attributes)) n.is)
 
-markup_none : (N : ℕ) (t : Element) (first : Bool) (at : ℕ) (place : Place) → MarkupMore N t first at place [] → ⊥
-markup_none N t first at place (begun b) = begun_none N t at place (60 ∷ []) b refl
-markup_none N t first at place (may_declare rest h i m w) = no_list 63 (codes "xml" ++ rest) w
+markup_none : (N : ℕ) (t : Element) (first : Bool) (at : ℕ) (nesting : Nesting) → MarkupMore N t first at nesting [] → ⊥
+markup_none N t first at nesting (begun b) = begun_none N t at nesting (60 ∷ []) b refl
+markup_none N t first at nesting (may_declare rest h i m w) = no_list 63 (codes "xml" ++ rest) w
 
-bang_none : (N : ℕ) (t : Element) (place : Place) → BangMore N t place [] → ⊥
-bang_none N t place (bang_comment rest u w) = no_list 45 (45 ∷ rest) w
-bang_none N t place (bang_section l e es rest i u w) = no_list 91 (codes "CDATA[" ++ rest) w
+bang_none : (N : ℕ) (t : Element) (nesting : Nesting) → BangMore N t nesting [] → ⊥
+bang_none N t nesting (bang_comment rest u w) = no_list 45 (45 ∷ rest) w
+bang_none N t nesting (bang_section l e es rest i u w) = no_list 91 (codes "CDATA[" ++ rest) w
 
-target_none : (N : ℕ) (t : Element) (first : Bool) (place : Place) (name : List ℕ) → TargetMore N t first place name [] → ⊥
-target_none N t first place name (names_instruction more text rest n x i r w) = has_last text 63 (62 ∷ rest) (sym (both_none more (text ++ (codes "?>" ++ rest)) w).1)
-target_none N t first place name (names_declaration more rest f b i m w) = declaration_none (Body N t) all_due false rest m (both_none more rest w).1
+target_none : (N : ℕ) (t : Element) (first : Bool) (nesting : Nesting) (name : List ℕ) → TargetMore N t first nesting name [] → ⊥
+target_none N t first nesting name (names_instruction more text rest n x i r w) = has_last text 63 (62 ∷ rest) (sym (both_none more (text ++ (codes "?>" ++ rest)) w).1)
+target_none N t first nesting name (names_declaration more rest f b i m w) = declaration_none (Body N t) all_due false rest m (both_none more rest w).1
 
 number_none : (base n : ℕ) (any : Bool) (K : List ℕ → List ℕ → Type 0) → NumberMore base n any K [] → ⊥
 number_none base n any K m = has_last m.digits 59 m.rest m.whole
@@ -147,12 +147,12 @@ ends (at_end root) at p v N t r = ap at_end (sym r.0)
 ends at_start at p v N t r = absurd (begin_none N t (subst (Begin N t) (both_none r.0 r.1 r.4).1 r.3))
 ends (outside true) at p v N t r = absurd (begin_none N t r)
 ends (outside false) at p v N t r = absurd (body_none N t r)
-ends (in_run levels e outer text b cr) at p v N t r = absurd (running_none (Behind N t (suc levels) outer) N levels e text b cr r)
-ends (at_markup first place begin) at p v N t r = absurd (markup_none N t first begin place r.1)
-ends (at_bang place) at p v N t r = absurd (bang_none N t place r)
-ends (in_comment place dash) at p v N t r = absurd (comment_none (λ text after. (more : List ℕ) × Resumed N t place more × (after ≡ 62 ∷ more)) is_comment dash r)
-ends (in_target first place name) at p v N t r = absurd (target_none N t first place name r)
-ends (in_instruction place question) at p v N t r = absurd (instruction_none (λ text after. Resumed N t place after) (lacks (codes "?>")) question r)
+ends (in_run levels e outer text b cr) at p v N t r = absurd (running_none (BehindElement N t (suc levels) outer) N levels e text b cr r)
+ends (at_markup first nesting begin) at p v N t r = absurd (markup_none N t first begin nesting r.1)
+ends (at_bang nesting) at p v N t r = absurd (bang_none N t nesting r)
+ends (in_comment nesting dash) at p v N t r = absurd (comment_none (λ text after. (more : List ℕ) × Resumed N t nesting more × (after ≡ 62 ∷ more)) is_comment dash r)
+ends (in_target first nesting name) at p v N t r = absurd (target_none N t first nesting name r)
+ends (in_instruction nesting question) at p v N t r = absurd (instruction_none (λ text after. Resumed N t nesting after) (lacks (codes "?>")) question r)
 ends (in_section levels e outer text b cr) at p v N t r =
     absurd (section_none (λ raw after. Resumed N t (within levels (with_text (text ++ line_ends_behind cr raw) e) outer) after) (lacks (codes "]]>")) b r)
 ends (in_name levels outer begin name) at p v N t r = absurd (tag_none N t levels outer false (named (name ++ r.more) begin) r.rest r.goes_on (both_none r.more r.rest r.whole).1)

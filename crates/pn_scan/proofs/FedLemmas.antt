@@ -7,15 +7,15 @@ use Rattle.pn_markup.specs.Content.{Spells}
 use Rattle.pn_markup.specs.Document.{Markup, IsDocument, IsFront}
 use Rattle.pn_scan.specs.State.{State, at_start, at_end}
 use Rattle.pn_scan.specs.Rest.{Rest, Body, Whole}
-use Rattle.pn_scan.specs.Step.{step}
-use Rattle.pn_scan.specs.Characters.{character_step}
+use Rattle.pn_scan.specs.NextState.{next_state}
+use Rattle.pn_scan.specs.Characters.{open_behind}
 use Rattle.pn_scan.specs.Viable.{IsViable}
 use Rattle.pn_scan.specs.Fed.{Fed}
 use Rattle.pn_scan.proofs.Tools.{Case}
 use Rattle.pn_scan.proofs.PieceLemmas.{some_is}
-use Rattle.pn_scan.proofs.StepLaw.{law}
+use Rattle.pn_scan.proofs.NextStateLaw.{law}
 use Rattle.pn_scan.proofs.ViableLemmas.{Keeps, keeps}
-use Rattle.pn_scan.proofs.TextLemmas.{text_goes, text_comes, step_open, open_text}
+use Rattle.pn_scan.proofs.TextLemmas.{text_goes, text_comes, open_still, open_text}
 use Rattle.pn_scan.proofs.HighLemmas.{completes_all}
 use Rattle.pn_scan.proofs.EndLemmas.{ends}
 
@@ -67,11 +67,11 @@ fed_start = record { viable = refl; is_open = tt; text_goes = λ c h. h; text_co
 
 -- one more byte
 
-pub fed_more : (s : State) (p b : List ℕ) (x : ℕ) (o : List ℕ) (s2 : State) → Fed s p b → character_step p x ≡ Some o → step s (length b) x ≡ Some s2 → Fed s2 o (b ++ (x ∷ []))
+pub fed_more : (s : State) (p b : List ℕ) (x : ℕ) (o : List ℕ) (s2 : State) → Fed s p b → open_behind p x ≡ Some o → next_state s (length b) x ≡ Some s2 → Fed s2 o (b ++ (x ∷ []))
 fed_more s p b x o s2 f e i =
     record {
       viable = subst (λ n. IsViable s2 n o) (sym long_one) (subst (λ a. Keeps a (suc (length b)) o) i (keeps (length b) p x o e f.is_open s f.viable));
-      is_open = step_open p x o e;
+      is_open = open_still p x o e;
       text_goes = λ c h. let n = text_goes p x c f.is_open (f.text_goes (x ∷ c) (subst (λ l. is_text l ≡ true) (append_assoc b (x ∷ []) c) h)) in
           subst (λ q. is_text (q ++ c) ≡ true) (some_is n.open_bytes o (sym n.is ∙ e)) n.rest;
       text_comes = λ c h. subst (λ l. is_text l ≡ true) (sym (append_assoc b (x ∷ []) c)) (f.text_comes (x ∷ c) (text_comes p x c o e h));
@@ -90,7 +90,7 @@ fed_more s p b x o s2 f e i =
 
 -- where a byte is refused no document goes on
 
-pub fed_no_character : (s : State) (p b : List ℕ) (x : ℕ) → Fed s p b → character_step p x ≡ None → IsFront (b ++ (x ∷ [])) → ⊥
+pub fed_no_character : (s : State) (p b : List ℕ) (x : ℕ) → Fed s p b → open_behind p x ≡ None → IsFront (b ++ (x ∷ [])) → ⊥
 fed_no_character s p b x f e d =
     let n = text_goes p x d.1 f.is_open (f.text_goes (x ∷ d.1) (subst (λ l. is_text l ≡ true) (append_assoc b (x ∷ []) d.1) d.2.characters)) in
     differ n.open_bytes (sym n.is ∙ e)
@@ -98,8 +98,8 @@ fed_no_character s p b x f e d =
     differ : (q : List ℕ) → Some q ≡ None → ⊥
     differ q h = cc
 
-pub fed_no_step : (s : State) (p b : List ℕ) (x : ℕ) → Fed s p b → step s (length b) x ≡ None → IsFront (b ++ (x ∷ [])) → ⊥
-fed_no_step s p b x f i d =
+pub fed_no_state : (s : State) (p b : List ℕ) (x : ℕ) → Fed s p b → next_state s (length b) x ≡ None → IsFront (b ++ (x ∷ [])) → ⊥
+fed_no_state s p b x f i d =
     let r = f.goes d.0 (x ∷ d.1) (subst (Markup d.0) (append_assoc b (x ∷ []) d.1) d.2.markup) in
     let q = (law s (length b) p f.viable x).goes (length (b ++ (x ∷ d.1))) d.0 d.1 (sym (length-append b (x ∷ d.1))) r in
     subst (λ a. Case a (length (b ++ (x ∷ d.1))) d.0 d.1) i q

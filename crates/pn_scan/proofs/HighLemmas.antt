@@ -5,24 +5,24 @@ use Rattle.std.proofs.lemmas.Bool.{false≢true, cond_both, and_parts, eqb-true,
 use Rattle.std.proofs.lemmas.Bool.Decides.{nat_tests}
 use Rattle.pn_text.specs.Characters.{is_name_part, is_text}
 use Rattle.pn_markup.specs.Bytes.{is_quote}
-use Rattle.pn_scan.specs.State.{Place, State, at_start, outside, at_end, in_run, at_markup, at_bang, in_comment, in_target, in_instruction, in_section, in_name, in_tag, in_attribute, before_equals, behind_equals, in_value, at_reference, in_entity, at_number, in_number, due, in_end, in_declaration, before_part_equals, behind_part_equals, in_part}
-use Rattle.pn_scan.specs.Step.{step}
-use Rattle.pn_scan.specs.Characters.{character_step, IsOpen}
+use Rattle.pn_scan.specs.State.{Nesting, State, at_start, outside, at_end, in_run, at_markup, at_bang, in_comment, in_target, in_instruction, in_section, in_name, in_tag, in_attribute, before_equals, behind_equals, in_value, at_reference, in_entity, at_number, in_number, due, in_end, in_declaration, before_part_equals, behind_part_equals, in_part}
+use Rattle.pn_scan.specs.NextState.{next_state}
+use Rattle.pn_scan.specs.Characters.{open_behind, AreOpen}
 use Rattle.pn_scan.specs.Viable.{IsViable}
 use Rattle.pn_scan.proofs.Tools.{Case}
-use Rattle.pn_scan.proofs.StepLaw.{law}
+use Rattle.pn_scan.proofs.NextStateLaw.{law}
 use Rattle.pn_scan.proofs.ViableLemmas.{Keeps, keeps}
-use Rattle.pn_scan.proofs.CompletionLemmas.{Completes, completes}
-use Rattle.pn_scan.proofs.TextLemmas.{text_goes, text_comes, step_open, open_text, fill, whole_text}
+use Rattle.pn_scan.proofs.CompletionLemmas.{Completes, completes, no_list}
+use Rattle.pn_scan.proofs.TextLemmas.{text_goes, text_comes, open_still, open_text, fill, whole_text}
 use Rattle.pn_text.proofs.TextLemmas.{is_text-append}
 
 -- states in which any byte past ASCII may come
 abbrev IsFree : State → Type 0
 IsFree (in_run levels e outer text b cr) = Unit {0}
-IsFree (in_comment place dash) = Unit {0}
-IsFree (in_target first place []) = ⊥
-IsFree (in_target first place (n ∷ ns)) = Unit {0}
-IsFree (in_instruction place question) = Unit {0}
+IsFree (in_comment nesting dash) = Unit {0}
+IsFree (in_target first nesting []) = ⊥
+IsFree (in_target first nesting (n ∷ ns)) = Unit {0}
+IsFree (in_instruction nesting question) = Unit {0}
 IsFree (in_section levels e outer text b cr) = Unit {0}
 IsFree (in_name levels outer begin name) = Unit {0}
 IsFree (in_attribute levels outer e name) = Unit {0}
@@ -52,19 +52,19 @@ module _ (x : ℕ) (high : 0x80 ≤ x) where
       small : (k : ℕ) → is_quote k ≡ true → k < 0x80
       small k l = grind (arith, nat_tests)
 
-  appended : (first : Bool) (place : Place) (name : List ℕ) → IsFree (in_target first place (name ++ (x ∷ [])))
-  appended first place [] = tt
-  appended first place (n ∷ ns) = tt
+  appended : (first : Bool) (nesting : Nesting) (name : List ℕ) → IsFree (in_target first nesting (name ++ (x ∷ [])))
+  appended first nesting [] = tt
+  appended first nesting (n ∷ ns) = tt
 
-  stays : (s : State) (at : ℕ) → IsFree s → Stays (step s at x)
+  stays : (s : State) (at : ℕ) → IsFree s → Stays (next_state s at x)
   stays (in_run levels e outer text b cr) at f =
       stay_if (x == 60) _ _ (λ h. absurd (not_at 60 refl h)) (λ h. stay_if (x == 38) _ _ (λ k. absurd (not_at 38 refl k)) (λ k. stay_if ((x == 62) && _) _ _ (λ l. absurd (not_at 62 refl (and_parts (x == 62) _ l).0)) (λ l. tt)))
-  stays (in_comment place true) at f = stay_if (x == 45) _ _ (λ h. absurd (not_at 45 refl h)) (λ h. tt)
-  stays (in_comment place false) at f = stay_if (x == 45) _ _ (λ h. tt) (λ h. tt)
-  stays (in_target first place []) at f = absurd f
-  stays (in_target first place (n ∷ ns)) at f = stay_if (is_name_part x) _ _ (λ h. tt) (λ h. absurd (false≢true (sym h ∙ high_part x high)))
-  stays (in_instruction place true) at f = stay_if (x == 62) _ _ (λ h. absurd (not_at 62 refl h)) (λ h. stay_if (x == 63) _ _ (λ k. tt) (λ k. tt))
-  stays (in_instruction place false) at f = stay_if (x == 63) _ _ (λ h. tt) (λ h. tt)
+  stays (in_comment nesting true) at f = stay_if (x == 45) _ _ (λ h. absurd (not_at 45 refl h)) (λ h. tt)
+  stays (in_comment nesting false) at f = stay_if (x == 45) _ _ (λ h. tt) (λ h. tt)
+  stays (in_target first nesting []) at f = absurd f
+  stays (in_target first nesting (n ∷ ns)) at f = stay_if (is_name_part x) _ _ (λ h. tt) (λ h. absurd (false≢true (sym h ∙ high_part x high)))
+  stays (in_instruction nesting true) at f = stay_if (x == 62) _ _ (λ h. absurd (not_at 62 refl h)) (λ h. stay_if (x == 63) _ _ (λ k. tt) (λ k. tt))
+  stays (in_instruction nesting false) at f = stay_if (x == 63) _ _ (λ h. tt) (λ h. tt)
   stays (in_section levels e outer text b cr) at f =
       stay_if (x == 93) _ _ (λ h. absurd (not_at 93 refl h)) (λ h. stay_if ((x == 62) && _) _ _ (λ l. absurd (not_at 62 refl (and_parts (x == 62) _ l).0)) (λ l. tt))
   stays (in_name levels outer begin name) at f = stay_if (is_name_part x) _ _ (λ h. tt) (λ h. absurd (false≢true (sym h ∙ high_part x high)))
@@ -74,8 +74,8 @@ module _ (x : ℕ) (high : 0x80 ≤ x) where
   stays at_start at f = absurd f
   stays (outside first) at f = absurd f
   stays (at_end root) at f = absurd f
-  stays (at_markup first place begin) at f = absurd f
-  stays (at_bang place) at f = absurd f
+  stays (at_markup first nesting begin) at f = absurd f
+  stays (at_bang nesting) at f = absurd f
   stays (in_tag levels outer e spaced) at f = absurd f
   stays (before_equals levels outer e name) at f = absurd f
   stays (behind_equals levels outer e name) at f = absurd f
@@ -91,7 +91,7 @@ module _ (x : ℕ) (high : 0x80 ≤ x) where
   stays (in_part part quote value) at f = absurd f
 
 -- one byte in front of a completion
-put_before : (s : State) (at : ℕ) (p : List ℕ) (x : ℕ) (o : List ℕ) (s2 : State) → IsViable s at p → character_step p x ≡ Some o → step s at x ≡ Some s2 → Completes s2 (suc at) o → Completes s at p
+put_before : (s : State) (at : ℕ) (p : List ℕ) (x : ℕ) (o : List ℕ) (s2 : State) → IsViable s at p → open_behind p x ≡ Some o → next_state s at x ≡ Some s2 → Completes s2 (suc at) o → Completes s at p
 put_before s at p x o s2 v e i r =
     record {
       c = x ∷ r.c;
@@ -101,24 +101,21 @@ put_before s at p x o s2 v e i r =
     }
 
 -- bytes that make the open ones whole, and a completion behind them
-walk : (more : List ℕ) (s : State) (at : ℕ) (p : List ℕ) → list_all (nat_le 0x80) more ≡ true → is_text (p ++ more) ≡ true → IsFree s → IsViable s at p → IsOpen p → Completes s at p
+walk : (more : List ℕ) (s : State) (at : ℕ) (p : List ℕ) → list_all (nat_le 0x80) more ≡ true → is_text (p ++ more) ≡ true → IsFree s → IsViable s at p → AreOpen p → Completes s at p
 walk [] s at p h t f v o =
     let none : p ≡ [] = open_text p o (subst (λ l. is_text l ≡ true) (append-nil p) t) in subst (Completes s at) (sym none) (completes s at (subst (IsViable s at) none v))
 walk (x ∷ more) s at p h t f v o =
     let both = and_parts (nat_le 0x80 x) (list_all (nat_le 0x80) more) h in
     let n = text_goes p x more o t in
-    go n.open_bytes n.is n.rest (step s at x) refl (stays x (leb-true 0x80 x both.0) s at f) (keeps at p x n.open_bytes n.is o s v) (λ s2 at2 p2 t2 f2 v2 o2. walk more s2 at2 p2 both.1 t2 f2 v2 o2)
+    go n.open_bytes n.is n.rest (next_state s at x) refl (stays x (leb-true 0x80 x both.0) s at f) (keeps at p x n.open_bytes n.is o s v) (λ s2 at2 p2 t2 f2 v2 o2. walk more s2 at2 p2 both.1 t2 f2 v2 o2)
   where
-    go : (q : List ℕ) → character_step p x ≡ Some q → is_text (q ++ more) ≡ true → (a : Option State) → step s at x ≡ a → Stays a → Keeps a (suc at) q
-        → ((s2 : State) (at2 : ℕ) (p2 : List ℕ) → is_text (p2 ++ more) ≡ true → IsFree s2 → IsViable s2 at2 p2 → IsOpen p2 → Completes s2 at2 p2) → Completes s at p
+    go : (q : List ℕ) → open_behind p x ≡ Some q → is_text (q ++ more) ≡ true → (a : Option State) → next_state s at x ≡ a → Stays a → Keeps a (suc at) q
+        → ((s2 : State) (at2 : ℕ) (p2 : List ℕ) → is_text (p2 ++ more) ≡ true → IsFree s2 → IsViable s2 at2 p2 → AreOpen p2 → Completes s2 at2 p2) → Completes s at p
     go q e r None i stay keep again = absurd stay
-    go q e r (Some s2) i stay keep again = put_before s at p x q s2 v e i (again s2 (suc at) q r stay keep (step_open p x q e))
-
-no_list : (x : ℕ) (xs : List ℕ) → x ∷ xs ≡ [] → ⊥
-no_list x xs h = cc
+    go q e r (Some s2) i stay keep again = put_before s at p x q s2 v e i (again s2 (suc at) q r stay keep (open_still p x q e))
 
 -- behind open bytes
-behind_open : (s : State) (at b : ℕ) (p : List ℕ) → IsOpen (b ∷ p) → IsViable s at (b ∷ p) → Completes s at (b ∷ p)
+behind_open : (s : State) (at b : ℕ) (p : List ℕ) → AreOpen (b ∷ p) → IsViable s at (b ∷ p) → Completes s at (b ∷ p)
 behind_open s at b p o v = go s v
   where
     free : (s : State) → IsViable s at (b ∷ p) → IsFree s → Completes s at (b ∷ p)
@@ -126,10 +123,10 @@ behind_open s at b p o v = go s v
 
     go : (s : State) → IsViable s at (b ∷ p) → Completes s at (b ∷ p)
     go (in_run levels e outer text br cr) v = free (in_run levels e outer text br cr) v tt
-    go (in_comment place dash) v = free (in_comment place dash) v tt
-    go (in_target first place []) v = absurd (no_list b p v.1)
-    go (in_target first place (n ∷ ns)) v = free (in_target first place (n ∷ ns)) v tt
-    go (in_instruction place question) v = free (in_instruction place question) v tt
+    go (in_comment nesting dash) v = free (in_comment nesting dash) v tt
+    go (in_target first nesting []) v = absurd (no_list b p v.1)
+    go (in_target first nesting (n ∷ ns)) v = free (in_target first nesting (n ∷ ns)) v tt
+    go (in_instruction nesting question) v = free (in_instruction nesting question) v tt
     go (in_section levels e outer text br cr) v = free (in_section levels e outer text br cr) v tt
     go (in_name levels outer begin name) v = free (in_name levels outer begin name) v tt
     go (in_attribute levels outer e name) v = free (in_attribute levels outer e name) v tt
@@ -144,8 +141,8 @@ behind_open s at b p o v = go s v
     go at_start v = absurd (no_list b p v)
     go (outside first) v = absurd (no_list b p v)
     go (at_end root) v = absurd (no_list b p v)
-    go (at_markup first place begin) v = absurd (no_list b p v.1)
-    go (at_bang place) v = absurd (no_list b p v.1)
+    go (at_markup first nesting begin) v = absurd (no_list b p v.1)
+    go (at_bang nesting) v = absurd (no_list b p v.1)
     go (in_tag levels outer e spaced) v = absurd (no_list b p v.1)
     go (before_equals levels outer e name) v = absurd (no_list b p v.2)
     go (behind_equals levels outer e name) v = absurd (no_list b p v.2)
@@ -159,6 +156,6 @@ behind_open s at b p o v = go s v
     go (behind_part_equals part) v = absurd (no_list b p v)
     go (in_part part quote value) v = absurd (no_list b p v.0)
 
-pub completes_all : (s : State) (at : ℕ) (p : List ℕ) → IsOpen p → IsViable s at p → Completes s at p
+pub completes_all : (s : State) (at : ℕ) (p : List ℕ) → AreOpen p → IsViable s at p → Completes s at p
 completes_all s at [] o v = completes s at v
 completes_all s at (b ∷ p) o v = behind_open s at b p o v

@@ -17,9 +17,9 @@ pub mod BegunLemmas
 pub mod OutsideLaws
 pub mod RunLaws
 pub mod MarkupLaws
-pub mod StepLaw
+pub mod NextStateLaw
 pub mod OpenTreeLemmas
-pub mod StepLemmas
+pub mod NextStateLemmas
 pub mod CharacterLemmas
 pub mod TextLemmas
 pub mod ViableLemmas
@@ -29,6 +29,6 @@ pub mod HighLemmas
 pub mod EndLemmas
 pub mod FedLemmas
 pub mod ReachLemmas
-pub mod ModeLemmas
+pub mod ContextLemmas
 pub mod ReadingLemmas
-pub mod PlainLemmas
+pub mod OrdinaryLemmas

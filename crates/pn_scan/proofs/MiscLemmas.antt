@@ -5,17 +5,12 @@ use Rattle.pn_markup.specs.Bytes.{is_space}
 use Rattle.pn_markup.specs.Misc.{Misc, nothing, space, comment, instruction}
 use Rattle.pn_markup.specs.Content.{Spells}
 use Rattle.pn_tree.specs.declared.element.Element.{Element}
-use Rattle.pn_scan.specs.State.{Place, before, within, behind, room_at}
+use Rattle.pn_scan.specs.State.{Nesting, before, behind, room_at}
 use Rattle.pn_scan.specs.Rest.{Body, Resumed, Begun, a_comment, an_instruction, a_section, a_reference, an_end, a_tag}
 use Rattle.pn_scan.proofs.Tools.{head_is, no_head}
 use Rattle.pn_scan.proofs.PieceLemmas.{some_is}
 use Rattle.pn_scan.proofs.ElementLemmas.{Tagged, over_tagged, tagged_over}
-
-not_within : (l : ℕ) (e : Element) (es : List Element) → before ≡ within l e es → ⊥
-not_within l e es h = cc
-
-not_inside : (l : ℕ) (root e : Element) (es : List Element) → behind root ≡ within l e es → ⊥
-not_inside l root e es h = cc
+use Rattle.pn_scan.proofs.BegunLemmas.{not_within, not_inside}
 
 no_room : (room : ℕ × List Element) → None ≡ Some room → ⊥
 no_room room h = cc
@@ -83,15 +78,15 @@ module _ (N : ℕ) (t : Element) where
             whole = w ∙ ap (λ l. bytes ++ l) r.whole ∙ sym (append_assoc bytes r.misc (r.root ++ r.last));
           }
 
-      go : (place : Place) (d : List ℕ) → Begun N t at place d → before ≡ place → at + length d ≡ N → Body N t d
-      go place d (a_comment _ _ bytes rest m r w) h o =
+      go : (nesting : Nesting) (d : List ℕ) → Begun N t at nesting d → before ≡ nesting → at + length d ≡ N → Body N t d
+      go nesting d (a_comment _ _ bytes rest m r w) h o =
           let s : Body N t rest = subst (λ q. Resumed N t q rest) (sym h) r in put d bytes rest w s (comment (bytes ++ s.misc) bytes s.misc m s.is_misc refl)
-      go place d (an_instruction _ _ bytes rest m r w) h o =
+      go nesting d (an_instruction _ _ bytes rest m r w) h o =
           let s : Body N t rest = subst (λ q. Resumed N t q rest) (sym h) r in put d bytes rest w s (instruction (bytes ++ s.misc) bytes s.misc m s.is_misc refl)
-      go place d (a_section _ _ l e es raw bytes rest i s r w) h o = absurd (not_within l e es (h ∙ i))
-      go place d (a_reference _ _ l e es text bytes rest i s r w) h o = absurd (not_within l e es (h ∙ i))
-      go place d (an_end _ _ l e es bytes rest i s r w) h o = absurd (not_within l e es (h ∙ i))
-      go place d (a_tag _ _ l es e bytes rest i s r w) h o = tag_body at d l es o (ap room_at h ∙ i) (record { element = e; tag = bytes; rest = rest; is_tag = s; is_end = r; is = w })
+      go nesting d (a_section _ _ l e es raw bytes rest i s r w) h o = absurd (not_within l e es (h ∙ i))
+      go nesting d (a_reference _ _ l e es text bytes rest i s r w) h o = absurd (not_within l e es (h ∙ i))
+      go nesting d (an_end _ _ l e es bytes rest i s r w) h o = absurd (not_within l e es (h ∙ i))
+      go nesting d (a_tag _ _ l es e bytes rest i s r w) h o = tag_body at d l es o (ap room_at h ∙ i) (record { element = e; tag = bytes; rest = rest; is_tag = s; is_end = r; is = w })
 
   -- behind the root
   pub end_begun : (at x : ℕ) (root : Element) (c : List ℕ) → is_space x ≡ false → (t ≡ root) × Misc (x ∷ c) → Begun N t at (behind root) (x ∷ c)
@@ -106,12 +101,12 @@ module _ (N : ℕ) (t : Element) where
   pub begun_end : (at : ℕ) (root : Element) (c : List ℕ) → Begun N t at (behind root) c → (t ≡ root) × Misc c
   begun_end at root c b = go (behind root) c b refl
     where
-      go : (place : Place) (d : List ℕ) → Begun N t at place d → behind root ≡ place → (t ≡ root) × Misc d
-      go place d (a_comment _ _ bytes rest m r w) h =
+      go : (nesting : Nesting) (d : List ℕ) → Begun N t at nesting d → behind root ≡ nesting → (t ≡ root) × Misc d
+      go nesting d (a_comment _ _ bytes rest m r w) h =
           let s : (t ≡ root) × Misc rest = subst (λ q. Resumed N t q rest) (sym h) r in (s.0, comment d bytes rest m s.1 w)
-      go place d (an_instruction _ _ bytes rest m r w) h =
+      go nesting d (an_instruction _ _ bytes rest m r w) h =
           let s : (t ≡ root) × Misc rest = subst (λ q. Resumed N t q rest) (sym h) r in (s.0, instruction d bytes rest m s.1 w)
-      go place d (a_section _ _ l e es raw bytes rest i s r w) h = absurd (not_inside l root e es (h ∙ i))
-      go place d (a_reference _ _ l e es text bytes rest i s r w) h = absurd (not_inside l root e es (h ∙ i))
-      go place d (an_end _ _ l e es bytes rest i s r w) h = absurd (not_inside l root e es (h ∙ i))
-      go place d (a_tag _ _ l es e bytes rest i s r w) h = absurd (no_room (l, es) (ap room_at h ∙ i))
+      go nesting d (a_section _ _ l e es raw bytes rest i s r w) h = absurd (not_inside l root e es (h ∙ i))
+      go nesting d (a_reference _ _ l e es text bytes rest i s r w) h = absurd (not_inside l root e es (h ∙ i))
+      go nesting d (an_end _ _ l e es bytes rest i s r w) h = absurd (not_inside l root e es (h ∙ i))
+      go nesting d (a_tag _ _ l es e bytes rest i s r w) h = absurd (no_room (l, es) (ap room_at h ∙ i))

@@ -4,7 +4,6 @@ use Rattle.std.specs.Option.{is_some}
 use Rattle.std.specs.List.{slice_get}
 use Rattle.std.specs.Str.{bytes_eq}
 use Rattle.std.proofs.lemmas.List.{reverse-reverse, reverse-append}
-use Rattle.std.proofs.lemmas.Slice.Eq.{bytes_eq-Decides}
 use Rattle.indexmap.specs.IndexSet.{contains_text}
 use Rattle.pn_tree.specs.Building.{Building, innermost, at_innermost, at_first, begun, with_attr, with_text, joined, joined_last}
 use Rattle.pn_tree.specs.Elements.{attr_value}
@@ -14,8 +13,9 @@ use Rattle.pn_tree.specs.declared.element.Child.{Child}
 use Rattle.pn_tree.specs.declared.element.Child.TheOpen as layer
 use Rattle.pn_tree.specs.declared.element.Child.TheViews.{out-Child}
 use Rattle.pn_scan.specs.State.{within, room_at}
-use Rattle.pn_scan.specs.Places.{place_in, place_of, is_inside, inner_of, name_of, levels_for, outer_for, HasRoom, Belongs}
+use Rattle.pn_scan.specs.Nestings.{nesting_in, nesting_of, is_inside, inner_of, name_of, levels_for, outer_for, HasRoom, Belongs}
 use Rattle.pn_scan.specs.declared.open_tree.OpenTree.{OpenTree}
+use Rattle.pn_scan.proofs.ElementLemmas.{name_kept}
 
 -- names
 
@@ -33,8 +33,8 @@ last_of_reverse xs y ys is =
     let whole : xs ≡ reverse ys ++ (y ∷ []) = sym (reverse-reverse xs) ∙ ap reverse is ∙ reverse-append (y ∷ []) ys in
     subst (λ l. slice_get l (length l - 1) ≡ Some y) (sym whole) (last_at (reverse ys) y)
 
-pub last_name : (names : List (List ℕ)) (es : List Element) (root : Option Element) → reverse names ≡ map name_of es → is_inside (place_in es root) ≡ true
-    → slice_get names (length names - 1) ≡ Some (inner_of (place_in es root)).name
+pub last_name : (names : List (List ℕ)) (es : List Element) (root : Option Element) → reverse names ≡ map name_of es → is_inside (nesting_in es root) ≡ true
+    → slice_get names (length names - 1) ≡ Some (inner_of (nesting_in es root)).name
 last_name names [] None is h = absurd (cc)
 last_name names [] (Some r) is h = absurd (cc)
 last_name names (e ∷ es) root is h = last_of_reverse names e.name (map name_of es) is
@@ -68,10 +68,6 @@ joined_some more [] h = cc
 joined_some more (k ∷ []) h = joined_last_some more k (out-Child k) h
 joined_some more (k ∷ x ∷ ks) h = cc
 
-with_text_name : (text : List ℕ) (e : Element) → (with_text text e).name ≡ e.name
-with_text_name [] e = refl
-with_text_name (b ∷ bs) e = refl
-
 knows_text : (has : List ℕ → Bool) (text : List ℕ) (e : Element) → Knows has e → Knows has (with_text text e)
 knows_text has [] e h = h
 knows_text has (b ∷ bs) e h = λ none. absurd (joined_some (b ∷ bs) e.kids none)
@@ -87,7 +83,7 @@ belongs_text t b text h is =
     let change = with_text text in
     let es = t.builder.open_elements in
     record {
-      names = h.names ∙ sym (ap (λ (v : Building). map name_of v.open_elements) is ∙ names_changed change (with_text_name text) es);
+      names = h.names ∙ sym (ap (λ (v : Building). map name_of v.open_elements) is ∙ names_changed change (name_kept text) es);
       attributes =
           subst (λ (v : Building). IfSome (innermost v) (Knows (contains_text t.attributes))) (sym is)
           (knows_first (contains_text t.attributes) (contains_text t.attributes) change t.builder.root es (λ e k. knows_text (contains_text t.attributes) text e k) h.attributes);
@@ -105,14 +101,6 @@ both_chosen true true o = refl
 both_chosen true false o = refl
 both_chosen false true o = refl
 both_chosen false false o = refl
-
-bytes_sym : (x y : List ℕ) → bytes_eq x y ≡ bytes_eq y x
-bytes_sym x y = go (bytes_eq x y) (bytes_eq y x) refl refl
-  where
-    go : (a b : Bool) → bytes_eq x y ≡ a → bytes_eq y x ≡ b → bytes_eq x y ≡ bytes_eq y x
-    go true b p q = p ∙ sym ((bytes_eq-Decides y x).1 (sym ((bytes_eq-Decides x y).0 p)))
-    go false true p q = (bytes_eq-Decides x y).1 (sym ((bytes_eq-Decides y x).0 q)) ∙ sym q
-    go false false p q = p ∙ sym q
 
 attr_push : (name value q : List ℕ) (given : List Attr)
     → is_some (attr_value q (given ++ (record { name = name; value = value } ∷ []))) ≡ cond (bytes_eq name q) true (is_some (attr_value q given))
@@ -139,15 +127,15 @@ belongs_attr t u name value h same_names same_end is more =
       rooted = λ ended. ap (λ (v : Building). v.open_elements) is ∙ none_changed change es (h.rooted (sym same_end ∙ ended));
     }
 
-not_ended : (b : Building) → HasRoom (place_in b.open_elements b.root) → is_some b.root ≡ true → b.open_elements ≡ [] → ⊥
+not_ended : (b : Building) → HasRoom (nesting_in b.open_elements b.root) → is_some b.root ≡ true → b.open_elements ≡ [] → ⊥
 not_ended b room root none = go b.open_elements b.root room root none
   where
-    go : (es : List Element) (r : Option Element) → room_at (place_in es r) ≡ Some (levels_for (place_in es r), outer_for (place_in es r)) → is_some r ≡ true → es ≡ [] → ⊥
+    go : (es : List Element) (r : Option Element) → room_at (nesting_in es r) ≡ Some (levels_for (nesting_in es r), outer_for (nesting_in es r)) → is_some r ≡ true → es ≡ [] → ⊥
     go [] (Some r) h k n = cc
     go [] None h k n = cc
     go (e ∷ es) r h k n = cc
 
-room_depth : (es : List Element) (r : Option Element) → room_at (place_in es r) ≡ Some (levels_for (place_in es r), outer_for (place_in es r)) → length es < 256
+room_depth : (es : List Element) (r : Option Element) → room_at (nesting_in es r) ≡ Some (levels_for (nesting_in es r), outer_for (nesting_in es r)) → length es < 256
 room_depth [] r h = omega arith
 room_depth (e ∷ es) r h = go (256 - length (e ∷ es)) refl h
   where
@@ -155,7 +143,7 @@ room_depth (e ∷ es) r h = go (256 - length (e ∷ es)) refl h
     go zero is k = absurd (cc)
     go (suc n) is k = omega arith
 
-pub belongs_begun : (t u : OpenTree) (name : List ℕ) (at : ℕ) → Belongs t → HasRoom (place_of t) → u.names.items ≡ t.names.items ++ (name ∷ []) → u.ended ≡ t.ended
+pub belongs_begun : (t u : OpenTree) (name : List ℕ) (at : ℕ) → Belongs t → HasRoom (nesting_of t) → u.names.items ≡ t.names.items ++ (name ∷ []) → u.ended ≡ t.ended
     → u.builder ≡ begun name at t.builder → ((q : List ℕ) → contains_text u.attributes q ≡ false) → Belongs u
 belongs_begun t u name at h room more_names same_end is none =
     let es = t.builder.open_elements in

@@ -8,7 +8,7 @@ use Rattle.pn_markup.specs.Document.{ByteOrderMark}
 use Rattle.pn_tree.specs.declared.element.Element.{Element}
 use Rattle.pn_scan.specs.State.{before, behind, at_start, outside, at_end, at_markup, due}
 use Rattle.pn_scan.specs.Rest.{Rest, Body, Begin, Whole, MarkupMore, begun, may_declare}
-use Rattle.pn_scan.specs.Step.{step, step_outside}
+use Rattle.pn_scan.specs.NextState.{next_state, next_outside}
 use Rattle.pn_scan.proofs.Tools.{Law, law_if, law_some, law_none, law_at, tail_is, no_head, differs, apart}
 use Rattle.pn_scan.proofs.MiscLemmas.{body_begun, begun_body, end_begun, begun_end}
 use Rattle.pn_scan.proofs.BegunLemmas.{only_less_before, only_less_behind}
@@ -71,7 +71,7 @@ markup_body : (N : ℕ) (t : Element) (at : ℕ) (c : List ℕ) → at + suc (le
 markup_body N t at c w (begun b) = begun_body N t at (60 ∷ c) w b
 markup_body N t at c w (may_declare rest h i m e) = absurd (false≢true h)
 
-law_body : (at x : ℕ) → Law (Rest (outside false)) at x (step_outside false at x)
+law_body : (at x : ℕ) → Law (Rest (outside false)) at x (next_outside false at x)
 law_body at x =
     let R = Rest (outside false) in
     let markup = Some (at_markup false before at) in
@@ -118,10 +118,7 @@ markup_begin N t at c offset (begun b) = ([], 60 ∷ c, tt, begun_body N t at (6
 markup_begin N t at c offset (may_declare rest h i m e) =
     let o = declaration_out (Body N t) rest m in (o.0, o.1, maybe_declaration o.0 o.2, o.3, ap (λ l. 60 ∷ l) e ∙ o.4)
 
-is_other : ℕ → ℕ → Bool
-is_other k x = x == k
-
-law_begin : (at x : ℕ) → Law (Rest (outside true)) at x (step_outside true at x)
+law_begin : (at x : ℕ) → Law (Rest (outside true)) at x (next_outside true at x)
 law_begin at x =
     let R = Rest (outside true) in
     let markup = Some (at_markup true before at) in
@@ -140,7 +137,7 @@ law_begin at x =
       comes = λ N t c w r. absurd r;
     }))
 
-pub law_outside : (first : Bool) (at x : ℕ) → Law (Rest (outside first)) at x (step (outside first) at x)
+pub law_outside : (first : Bool) (at x : ℕ) → Law (Rest (outside first)) at x (next_state (outside first) at x)
 law_outside true at x = law_begin at x
 law_outside false at x = law_body at x
 
@@ -160,12 +157,12 @@ no_mark N t x c h b = go b.0 b.2 b.4
     go [] m w = subst (Begin N t) (sym w) b.3
     go (y ∷ mark) m w = absurd (differs x 0xEF c (0xBB ∷ 0xBF ∷ b.1) h (w ∙ ap (λ l. l ++ b.1) m))
 
-pub law_start : (at x : ℕ) → Law (Rest at_start) at x (step at_start at x)
+pub law_start : (at x : ℕ) → Law (Rest at_start) at x (next_state at_start at x)
 law_start at x =
     let R = Rest at_start in
     let marked = Some (due (0xBB ∷ 0xBF ∷ []) (outside true)) in
     let l = law_begin at x in
-    law_if R at x (x == 0xEF) marked (step_outside true at x)
+    law_if R at x (x == 0xEF) marked (next_outside true at x)
     (λ h. law_at R at x 0xEF marked h (record {
       goes = λ N t c w b. mark_goes N t at c w b;
       comes = λ N t c w r. (0xEF ∷ 0xBB ∷ 0xBF ∷ [], r.0, refl, r.1, ap (λ l. 0xEF ∷ l) r.2);
@@ -178,7 +175,7 @@ markup_end : (N : ℕ) (t root : Element) (at : ℕ) (c : List ℕ) → MarkupMo
 markup_end N t root at c (begun b) = begun_end N t at root (60 ∷ c) b
 markup_end N t root at c (may_declare rest h i m e) = absurd (false≢true h)
 
-pub law_at_end : (root : Element) (at x : ℕ) → Law (Rest (at_end root)) at x (step (at_end root) at x)
+pub law_at_end : (root : Element) (at x : ℕ) → Law (Rest (at_end root)) at x (next_state (at_end root) at x)
 law_at_end root at x =
     let R = Rest (at_end root) in
     let markup = Some (at_markup false (behind root) at) in

@@ -11,7 +11,7 @@ use Rattle.pn_markup.specs.Bytes.{is_quote, begins_with}
 use Rattle.pn_markup.specs.Declaration.{is_version, are_digits}
 use Rattle.pn_scan.specs.State.{Part, version, encoding, standalone}
 use Rattle.pn_scan.specs.Rest.{is_part_value}
-use Rattle.pn_scan.specs.Step.{is_part_front, is_version_front}
+use Rattle.pn_scan.specs.NextState.{is_part_front, is_version_front}
 use Rattle.pn_scan.proofs.Spans.{all_first, all_rest, all_more, all_append_left, all_append_right}
 
 pub begins_prefix : (a b w : List ℕ) → begins_with (a ++ b) w ≡ true → begins_with a w ≡ true
@@ -31,7 +31,7 @@ begins_all q (x ∷ a) (y ∷ w) h k =
     let both = and_parts (x == y) (begins_with a w) k in
     all_more q x a (subst (λ z. q z ≡ true) (sym (eqb-true x y both.0)) (all_first q y w h)) (begins_all q a w (all_rest q y w h) both.1)
 
-lower_append : (a b : List ℕ) → map to_ascii_lowercase (a ++ b) ≡ map to_ascii_lowercase a ++ map to_ascii_lowercase b
+pub lower_append : (a b : List ℕ) → map to_ascii_lowercase (a ++ b) ≡ map to_ascii_lowercase a ++ map to_ascii_lowercase b
 lower_append [] b = refl
 lower_append (x ∷ a) b = ap (λ l. to_ascii_lowercase x ∷ l) (lower_append a b)
 

@@ -12,7 +12,7 @@ use Rattle.pn_markup.specs.References.{Entity, lt, gt, amp, apos, quot, entity_n
 use Rattle.pn_tree.specs.declared.element.Element.{Element}
 use Rattle.pn_scan.specs.State.{Holder, of_content, of_value, at_reference, in_entity, at_number, in_number, behind_reference}
 use Rattle.pn_scan.specs.Rest.{Rest, Held, NumberMore, EntityMore}
-use Rattle.pn_scan.specs.Step.{step, entity_of, is_entity_front, entity_found, step_entity, step_number}
+use Rattle.pn_scan.specs.NextState.{next_state, entity_of, is_entity_front, entity_found, next_in_entity, next_in_number}
 use Rattle.pn_scan.proofs.Tools.{Law, law_if, law_some, law_none, law_at, head_is, tail_is, no_head, differs, apart}
 use Rattle.pn_scan.proofs.Spans.{Front, here, there, front_of, all_rest, all_more, span_out}
 
@@ -103,7 +103,7 @@ module _ (holder : Holder) (base : ℕ) (one : 1 ≤ base) (small : base ≤ 36)
   number_ends n any h k N t c r =
       record { digits = []; rest = c; first = λ a b. false≢true (sym a ∙ h); are_digits = refl; character = k; goes_on = r; whole = refl }
 
-  pub law_number : (n : ℕ) (any : Bool) (at x : ℕ) → Law (Rest (in_number holder base n any)) at x (step_number holder base n any x)
+  pub law_number : (n : ℕ) (any : Bool) (at x : ℕ) → Law (Rest (in_number holder base n any)) at x (next_in_number holder base n any x)
   law_number n any at x =
       let R = Rest (in_number holder base n any) in
       let next = n * base + digit_value x in
@@ -120,11 +120,11 @@ module _ (holder : Holder) (base : ℕ) (one : 1 ≤ base) (small : base ≤ 36)
       (λ k. law_none R at x (λ N t c m. let d = digits_over n any x h N t c m in
       false≢true (sym k ∙ and_from (x == 59) (any && is_character n) (eq-eqb x 59 d.0) (and_from any (is_character n) d.1 d.2)))))
 
-pub law_at_number : (holder : Holder) (at x : ℕ) → Law (Rest (at_number holder)) at x (step (at_number holder) at x)
+pub law_at_number : (holder : Holder) (at x : ℕ) → Law (Rest (at_number holder)) at x (next_state (at_number holder) at x)
 law_at_number holder at x =
     let R = Rest (at_number holder) in
     let l = law_number holder 10 (omega arith) (omega arith) 0 false at x in
-    law_if R at x (x == 120) (Some (in_number holder 16 0 false)) (step_number holder 10 0 false x)
+    law_if R at x (x == 120) (Some (in_number holder 16 0 false)) (next_in_number holder 10 0 false x)
     (λ h. law_at R at x 120 (Some (in_number holder 16 0 false)) h (law_some R at 120 (in_number holder 16 0 false) hex_goes hex_comes))
     (λ h. record { goes = λ N t c w m. l.goes N t c w (decimal_only h N t c m); comes = λ N t c w r. inl (l.comes N t c w r) })
   where
@@ -257,7 +257,7 @@ module _ (holder : Holder) where
   found_comes : (part : List ℕ) (e : Entity) → entity_of part ≡ Some e → (N : ℕ) (t : Element) (c : List ℕ) → Held N t holder (entity_text e) c → Of part N t c
   found_comes part e h N t c r = record { entity = e; left = []; rest = c; name_is = append-nil part ∙ full-entity_of part e h; goes_on = r; whole = refl }
 
-  pub law_entity : (part : List ℕ) → entity_of part ≡ None → (at x : ℕ) → Law (λ N t c. EntityMore part (Held N t holder) c) at x (step_entity holder part x)
+  pub law_entity : (part : List ℕ) → entity_of part ≡ None → (at x : ℕ) → Law (λ N t c. EntityMore part (Held N t holder) c) at x (next_in_entity holder part x)
   law_entity part open_part at x = go (entity_of q) refl
     where
       q : List ℕ
@@ -362,10 +362,10 @@ entity_ampersand holder N t c m = (
   ap (λ l. 38 ∷ l) (m.whole ∙ ap (λ l. l ++ m.rest) m.name_is),
 )
 
-pub law_reference : (holder : Holder) (at x : ℕ) → Law (Rest (at_reference holder)) at x (step (at_reference holder) at x)
+pub law_reference : (holder : Holder) (at x : ℕ) → Law (Rest (at_reference holder)) at x (next_state (at_reference holder) at x)
 law_reference holder at x =
     let R = Rest (at_reference holder) in
     let l = law_entity holder [] refl at x in
-    law_if R at x (x == 35) (Some (at_number holder)) (step_entity holder [] x)
+    law_if R at x (x == 35) (Some (at_number holder)) (next_in_entity holder [] x)
     (λ h. law_at R at x 35 (Some (at_number holder)) h (law_some R at 35 (at_number holder) (ampersand_number holder) (number_ampersand holder)))
     (λ h. record { goes = λ N t c w r. l.goes N t c w (ampersand_entity holder x h N t c r); comes = λ N t c w r. entity_ampersand holder N t (x ∷ c) (l.comes N t c w r) })

@@ -7,9 +7,9 @@ use Rattle.pn_tree.specs.Building.{with_text}
 use Rattle.pn_markup.specs.Bytes.{lacks, begins_with, line_ends_behind}
 use Rattle.pn_markup.specs.Content.{is_run_byte}
 use Rattle.pn_tree.specs.declared.element.Element.{Element}
-use Rattle.pn_scan.specs.State.{Place, of_content, within, Brackets, no_bracket, one_bracket, two_brackets, in_run, at_markup, at_reference}
-use Rattle.pn_scan.specs.Rest.{Rest, Marked, Behind, Resumed, brackets, MarkupMore, begun, may_declare, Begun, a_comment, an_instruction, a_section, a_reference, an_end, a_tag}
-use Rattle.pn_scan.specs.Step.{step_run, line_text, one_more, are_two, brackets_behind}
+use Rattle.pn_scan.specs.State.{Nesting, of_content, within, Brackets, no_bracket, one_bracket, two_brackets, in_run, at_markup, at_reference}
+use Rattle.pn_scan.specs.Rest.{Rest, Marked, BehindElement, Resumed, brackets, MarkupMore, begun, may_declare, Begun, a_comment, an_instruction, a_section, a_reference, an_end, a_tag}
+use Rattle.pn_scan.specs.NextState.{next_in_run, line_text, one_more, are_two, brackets_behind}
 use Rattle.pn_scan.proofs.Tools.{Law, law_if, law_some, law_none, law_at, differs}
 use Rattle.pn_scan.proofs.Spans.{Front, here, there, front_of, all_first, all_rest, all_more}
 use Rattle.pn_scan.proofs.UntilLemmas.{lacks_two, lacks_other, lacks_skip, not_same}
@@ -57,7 +57,7 @@ unmarked_comes b x run n h = go (x == 93) refl b n h
 module _ (levels : ℕ) (e : Element) (outer : List Element) (text : List ℕ) (b : Brackets) (cr : Bool) where
   -- what follows the run
   abbrev Ran : ℕ → Element → List ℕ → Type 0
-  Ran N t c = Marked (Behind N t (suc levels) outer) N levels (with_text text e) c
+  Ran N t c = Marked (BehindElement N t (suc levels) outer) N levels (with_text text e) c
 
   -- the run is over
   over_goes : (x : ℕ) → is_run_byte x ≡ false → (N : ℕ) (t : Element) (c : List ℕ) → Rest (in_run levels e outer text b cr) N t (x ∷ c) → Ran N t (x ∷ c)
@@ -65,8 +65,8 @@ module _ (levels : ℕ) (e : Element) (outer : List Element) (text : List ℕ) (
     where
       go : Front x c r.run r.rest → Ran N t (x ∷ c)
       go (here i j) =
-          subst (λ l. Marked (Behind N t (suc levels) outer) N levels (with_text l e) (x ∷ c)) (ap (λ l. text ++ line_ends_behind cr l) i ∙ append-nil text)
-          (subst (Marked (Behind N t (suc levels) outer) N levels (with_text (text ++ line_ends_behind cr r.run) e)) j r.goes_on)
+          subst (λ l. Marked (BehindElement N t (suc levels) outer) N levels (with_text l e) (x ∷ c)) (ap (λ l. text ++ line_ends_behind cr l) i ∙ append-nil text)
+          (subst (Marked (BehindElement N t (suc levels) outer) N levels (with_text (text ++ line_ends_behind cr r.run) e)) j r.goes_on)
       go (there more i j) = absurd (false≢true (sym h ∙ all_first is_run_byte x more (subst (λ l. list_all is_run_byte l ≡ true) i r.are_run)))
 
   brackets_alone : (b : Brackets) → lacks (codes "]]>") (brackets b ++ []) ≡ true
@@ -81,7 +81,7 @@ module _ (levels : ℕ) (e : Element) (outer : List Element) (text : List ℕ) (
         rest = c;
         are_run = refl;
         unmarked = brackets_alone b;
-        goes_on = subst (λ l. Marked (Behind N t (suc levels) outer) N levels (with_text l e) c) (sym (append-nil text)) m;
+        goes_on = subst (λ l. Marked (BehindElement N t (suc levels) outer) N levels (with_text l e) c) (sym (append-nil text)) m;
         whole = refl;
       }
 
@@ -90,15 +90,15 @@ module _ (levels : ℕ) (e : Element) (outer : List Element) (text : List ℕ) (
   markup_run N t at c w (may_declare rest h i m k) = absurd (false≢true h)
 
   -- a reference
-  reference_goes : (N : ℕ) (t : Element) (at : ℕ) (place : Place) (c d : List ℕ) → place ≡ within levels (with_text text e) outer → d ≡ 38 ∷ c → Begun N t at place d
+  reference_goes : (N : ℕ) (t : Element) (at : ℕ) (nesting : Nesting) (c d : List ℕ) → nesting ≡ within levels (with_text text e) outer → d ≡ 38 ∷ c → Begun N t at nesting d
       → Rest (at_reference (of_content levels (with_text text e) outer)) N t c
-  reference_goes N t at place c d p w (a_comment _ _ bytes rest m r i) =
+  reference_goes N t at nesting c d p w (a_comment _ _ bytes rest m r i) =
       absurd (differs 38 60 c ((codes "!--" ++ (m.0 ++ codes "-->")) ++ rest) refl (sym w ∙ i ∙ ap (λ l. l ++ rest) m.2))
-  reference_goes N t at place c d p w (an_instruction _ _ bytes rest m r i) =
+  reference_goes N t at nesting c d p w (an_instruction _ _ bytes rest m r i) =
       absurd (differs 38 60 c ((codes "?" ++ (m.target ++ (m.text ++ codes "?>"))) ++ rest) refl (sym w ∙ i ∙ ap (λ l. l ++ rest) m.whole))
-  reference_goes N t at place c d p w (a_section _ _ l f es raw bytes rest q s r i) =
+  reference_goes N t at nesting c d p w (a_section _ _ l f es raw bytes rest q s r i) =
       absurd (differs 38 60 c ((codes "![CDATA[" ++ (raw ++ codes "]]>")) ++ rest) refl (sym w ∙ i ∙ ap (λ l. l ++ rest) s.1))
-  reference_goes N t at place c d p w (a_reference _ _ l f es t2 bytes rest q s r i) =
+  reference_goes N t at nesting c d p w (a_reference _ _ l f es t2 bytes rest q s r i) =
       let same = within_is l levels f (with_text text e) es outer (sym q ∙ p) in (
         t2,
         bytes,
@@ -108,9 +108,9 @@ module _ (levels : ℕ) (e : Element) (outer : List Element) (text : List ℕ) (
             (subst (λ g. Resumed N t (within l (with_text t2 g) outer) rest) same.1 (subst (λ gs. Resumed N t (within l (with_text t2 f) gs) rest) same.2 r)),
         sym w ∙ i,
       )
-  reference_goes N t at place c d p w (an_end _ _ l f es bytes rest q s r i) =
+  reference_goes N t at nesting c d p w (an_end _ _ l f es bytes rest q s r i) =
       absurd (differs 38 60 c ((codes "/" ++ (f.name ++ (s.0 ++ codes ">"))) ++ rest) refl (sym w ∙ i ∙ ap (λ l. l ++ rest) s.2))
-  reference_goes N t at place c d p w (a_tag _ _ l es f bytes rest q s r i) =
+  reference_goes N t at nesting c d p w (a_tag _ _ l es f bytes rest q s r i) =
       absurd (differs 38 60 c ((s.name ++ s.attributes) ++ rest) refl (sym w ∙ i ∙ ap (λ l. l ++ rest) s.whole))
 
   -- one more byte
@@ -123,14 +123,14 @@ module _ (levels : ℕ) (e : Element) (outer : List Element) (text : List ℕ) (
     where
       go : Front x c r.run r.rest → Rest (in_run levels e outer (text ++ line_text cr x) (brackets_behind b x) (x == 13)) N t c
       go (here i j) =
-          absurd (no_markup N t levels (with_text (text ++ line_ends_behind cr r.run) e) outer x c h k (subst (Marked (Behind N t (suc levels) outer) N levels (with_text (text ++ line_ends_behind cr r.run) e)) j r.goes_on))
+          absurd (no_markup N t levels (with_text (text ++ line_ends_behind cr r.run) e) outer x c h k (subst (Marked (BehindElement N t (suc levels) outer) N levels (with_text (text ++ line_ends_behind cr r.run) e)) j r.goes_on))
       go (there more i j) =
           record {
             run = more;
             rest = r.rest;
             are_run = all_rest is_run_byte x more (subst (λ l. list_all is_run_byte l ≡ true) i r.are_run);
             unmarked = unmarked_goes b x more (subst (λ l. lacks (codes "]]>") (brackets b ++ l) ≡ true) i r.unmarked);
-            goes_on = subst (λ l. Marked (Behind N t (suc levels) outer) N levels (with_text l e) r.rest) (ap (λ l. text ++ line_ends_behind cr l) i ∙ line_so x more) r.goes_on;
+            goes_on = subst (λ l. Marked (BehindElement N t (suc levels) outer) N levels (with_text l e) r.rest) (ap (λ l. text ++ line_ends_behind cr l) i ∙ line_so x more) r.goes_on;
             whole = j;
           }
 
@@ -142,7 +142,7 @@ module _ (levels : ℕ) (e : Element) (outer : List Element) (text : List ℕ) (
         rest = r.rest;
         are_run = all_more is_run_byte x r.run (and_from (not (x == 60)) (not (x == 38)) (not_from_false (x == 60) h) (not_from_false (x == 38) k)) r.are_run;
         unmarked = unmarked_comes b x r.run n r.unmarked;
-        goes_on = subst (λ l. Marked (Behind N t (suc levels) outer) N levels (with_text l e) r.rest) (sym (line_so x r.run)) r.goes_on;
+        goes_on = subst (λ l. Marked (BehindElement N t (suc levels) outer) N levels (with_text l e) r.rest) (sym (line_so x r.run)) r.goes_on;
         whole = ap (λ l. x ∷ l) r.whole;
       }
 
@@ -157,7 +157,7 @@ module _ (levels : ℕ) (e : Element) (outer : List Element) (text : List ℕ) (
 
       go : Front 62 c r.run r.rest → ⊥
       go (here i j) =
-          no_markup N t levels (with_text (text ++ line_ends_behind cr r.run) e) outer 62 c refl refl (subst (Marked (Behind N t (suc levels) outer) N levels (with_text (text ++ line_ends_behind cr r.run) e)) j r.goes_on)
+          no_markup N t levels (with_text (text ++ line_ends_behind cr r.run) e) outer 62 c refl refl (subst (Marked (BehindElement N t (suc levels) outer) N levels (with_text (text ++ line_ends_behind cr r.run) e)) j r.goes_on)
       go (there more i j) = marked b more two (subst (λ l. lacks (codes "]]>") (brackets b ++ l) ≡ true) i r.unmarked)
 
   -- a reference in content, and what it is in the grammar
@@ -166,11 +166,11 @@ module _ (levels : ℕ) (e : Element) (outer : List Element) (text : List ℕ) (
       begun_marked N t levels at (with_text text e) outer (38 ∷ c) w
       (a_reference (within levels (with_text text e) outer) (38 ∷ c) levels (with_text text e) outer r.0 r.1 r.2 refl r.3 r.4 r.5)
 
-  pub law_run : (at x : ℕ) → Law (Rest (in_run levels e outer text b cr)) at x (step_run levels e outer text b cr at x)
+  pub law_run : (at x : ℕ) → Law (Rest (in_run levels e outer text b cr)) at x (next_in_run levels e outer text b cr at x)
   law_run at x =
       let R = Rest (in_run levels e outer text b cr) in
-      let place = within levels (with_text text e) outer in
-      let markup = Some (at_markup false place at) in
+      let nesting = within levels (with_text text e) outer in
+      let markup = Some (at_markup false nesting at) in
       let ref = Some (at_reference (of_content levels (with_text text e) outer)) in
       let more = Some (in_run levels e outer (text ++ line_text cr x) (brackets_behind b x) (x == 13)) in
       law_if R at x (x == 60) markup (cond (x == 38) ref (cond ((x == 62) && are_two b) None more))
@@ -180,7 +180,7 @@ module _ (levels : ℕ) (e : Element) (outer : List Element) (text : List ℕ) (
       }))
       (λ h. law_if R at x (x == 38) ref (cond ((x == 62) && are_two b) None more)
       (λ k. law_at R at x 38 ref k (record {
-        goes = λ N t c w r. reference_goes N t at place c (38 ∷ c) refl refl (marked_begun N t levels at (with_text text e) outer (38 ∷ c) w (over_goes 38 refl N t c r));
+        goes = λ N t c w r. reference_goes N t at nesting c (38 ∷ c) refl refl (marked_begun N t levels at (with_text text e) outer (38 ∷ c) w (over_goes 38 refl N t c r));
         comes = λ N t c w r. over_comes N t (38 ∷ c) (reference_comes N t at c w r);
       }))
       (λ k. law_if R at x ((x == 62) && are_two b) None more

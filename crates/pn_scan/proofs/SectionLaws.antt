@@ -5,9 +5,9 @@ use Rattle.std.specs.Cmp.{second_so}
 use Rattle.pn_markup.specs.Bytes.{begins_with, lacks, line_ends_behind}
 use Rattle.pn_tree.specs.Building.{with_text}
 use Rattle.pn_tree.specs.declared.element.Element.{Element}
-use Rattle.pn_scan.specs.State.{within, Brackets, no_bracket, one_bracket, two_brackets, in_section, behind_item, State}
+use Rattle.pn_scan.specs.State.{within, Brackets, no_bracket, one_bracket, two_brackets, in_section, behind_piece, State}
 use Rattle.pn_scan.specs.Rest.{Rest, Until, Resumed, brackets}
-use Rattle.pn_scan.specs.Step.{step_section, line_text, bracket_in, cr_behind, are_two}
+use Rattle.pn_scan.specs.NextState.{next_in_section, line_text, bracket_in, cr_behind, are_two}
 use Rattle.pn_scan.proofs.Tools.{Law, law_if, law_some, law_at, head_is, tail_is, differs}
 use Rattle.pn_scan.proofs.UntilLemmas.{skip_goes, skip_comes, two_goes, two_comes, lacks_two, lacks_other, lacks_skip, not_same}
 
@@ -80,7 +80,7 @@ not_both false h = refl
 
 module _ (levels : ℕ) (e : Element) (outer : List Element) where
   close_goes : (text : List ℕ) (cr : Bool) (N : ℕ) (t : Element) (c : List ℕ) → Rest (in_section levels e outer text two_brackets cr) N t (62 ∷ c)
-      → Rest (behind_item (within levels (with_text text e) outer)) N t c
+      → Rest (behind_piece (within levels (with_text text e) outer)) N t c
   close_goes text cr N t c u = go u.text u.good u.goes_on u.whole
     where
       go : (raw : List ℕ) → lacks (codes "]]>") raw ≡ true → SectionEnd N t levels e outer text cr raw u.rest → 93 ∷ 93 ∷ 62 ∷ c ≡ raw ++ (codes "]]>" ++ u.rest)
@@ -94,7 +94,7 @@ module _ (levels : ℕ) (e : Element) (outer : List Element) where
           let all : a ∷ b ∷ d ∷ raw ≡ 93 ∷ 93 ∷ 62 ∷ raw = cc in
           absurd (false≢true (subst (λ l. lacks (codes "]]>") l ≡ true) all g))
 
-  close_comes : (text : List ℕ) (cr : Bool) (N : ℕ) (t : Element) (c : List ℕ) → Rest (behind_item (within levels (with_text text e) outer)) N t c
+  close_comes : (text : List ℕ) (cr : Bool) (N : ℕ) (t : Element) (c : List ℕ) → Rest (behind_piece (within levels (with_text text e) outer)) N t c
       → Rest (in_section levels e outer text two_brackets cr) N t (62 ∷ c)
   close_comes text cr N t c r =
       record { text = []; rest = c; good = refl; goes_on = resumed_same N t levels e outer text (text ++ []) c (sym (append-nil text)) r; whole = refl }
@@ -170,16 +170,16 @@ module _ (levels : ℕ) (e : Element) (outer : List Element) where
   law_bracket text two_brackets cr at =
       law_some (Rest (in_section levels e outer text two_brackets cr)) at 93 (in_section levels e outer (text ++ (93 ∷ [])) two_brackets false) (more_goes text cr) (more_comes text cr)
 
-  law_close : (text : List ℕ) (b : Brackets) (cr : Bool) (at : ℕ) → are_two b ≡ true → Law (Rest (in_section levels e outer text b cr)) at 62 (Some (behind_item (within levels (with_text text e) outer)))
+  law_close : (text : List ℕ) (b : Brackets) (cr : Bool) (at : ℕ) → are_two b ≡ true → Law (Rest (in_section levels e outer text b cr)) at 62 (Some (behind_piece (within levels (with_text text e) outer)))
   law_close text no_bracket cr at h = absurd (false≢true h)
   law_close text one_bracket cr at h = absurd (false≢true h)
   law_close text two_brackets cr at h =
-      law_some (Rest (in_section levels e outer text two_brackets cr)) at 62 (behind_item (within levels (with_text text e) outer)) (close_goes text cr) (close_comes text cr)
+      law_some (Rest (in_section levels e outer text two_brackets cr)) at 62 (behind_piece (within levels (with_text text e) outer)) (close_goes text cr) (close_comes text cr)
 
-  pub law_section : (text : List ℕ) (b : Brackets) (cr : Bool) (at x : ℕ) → Law (Rest (in_section levels e outer text b cr)) at x (step_section levels e outer text b cr x)
+  pub law_section : (text : List ℕ) (b : Brackets) (cr : Bool) (at x : ℕ) → Law (Rest (in_section levels e outer text b cr)) at x (next_in_section levels e outer text b cr x)
   law_section text b cr at x =
       let R = Rest (in_section levels e outer text b cr) in
-      let closed = Some (behind_item (within levels (with_text text e) outer)) in
+      let closed = Some (behind_piece (within levels (with_text text e) outer)) in
       let other = Some (state_behind levels e outer text b cr x) in
       law_if R at x (x == 93) (Some (bracket_in levels e outer text b cr)) (cond ((x == 62) && are_two b) closed other)
       (λ h. law_at R at x 93 (Some (bracket_in levels e outer text b cr)) h (law_bracket text b cr at))

@@ -7,6 +7,7 @@ use Rattle.pn_text.specs.Characters.{is_name_start, is_name_part}
 use Rattle.pn_markup.specs.Bytes.{is_space, is_quote, MaybeSpace, Name}
 use Rattle.pn_scan.specs.Rest.{SpaceOr}
 use Rattle.pn_scan.proofs.Tools.{head_is, tail_is}
+use Rattle.pn_facts.proofs.Lists.{all_append}
 
 -- a list that begins a list with x at its front: it is empty, or it has x at its front
 pub data Front (x : ℕ) (c a d : List ℕ) : Type 0 where
@@ -59,9 +60,6 @@ part_no_space x h = grind (arith, nat_tests)
 pub space_no_part : (x : ℕ) → is_space x ≡ true → is_name_part x ≡ false
 space_no_part x h = grind (arith, nat_tests)
 
-pub space_no_start : (x : ℕ) → is_space x ≡ true → is_name_start x ≡ false
-space_no_start x h = grind (arith, nat_tests)
-
 pub quote_no_space : (x : ℕ) → is_quote x ≡ true → is_space x ≡ false
 quote_no_space x h = grind (arith, nat_tests)
 
@@ -89,10 +87,6 @@ all_append_left p (x ∷ xs) ys h = all_more p x xs (all_first p x (xs ++ ys) h)
 pub all_append_right : (p : ℕ → Bool) (xs ys : List ℕ) → list_all p (xs ++ ys) ≡ true → list_all p ys ≡ true
 all_append_right p [] ys h = h
 all_append_right p (x ∷ xs) ys h = all_append_right p xs ys (all_rest p x (xs ++ ys) h)
-
-pub all_append : (p : ℕ → Bool) (xs ys : List ℕ) → list_all p xs ≡ true → list_all p ys ≡ true → list_all p (xs ++ ys) ≡ true
-all_append p [] ys h k = k
-all_append p (x ∷ xs) ys h k = all_more p x (xs ++ ys) (all_first p x xs h) (all_append p xs ys (all_rest p x xs h) k)
 
 -- each byte behind the first of a name may be in one
 pub name_has : (name : List ℕ) (x : ℕ) (more : List ℕ) → Name (name ++ (x ∷ more)) → is_name_part x ≡ true

@@ -9,7 +9,7 @@ use Rattle.pn_markup.specs.Tags.{named, Attribute}
 use Rattle.pn_tree.specs.declared.element.Element.{Element}
 use Rattle.pn_scan.specs.State.{within, due, in_run, no_bracket, in_name, in_tag, in_attribute, behind_element}
 use Rattle.pn_scan.specs.Rest.{Rest, Resumed, TagEnd, opens, closes_empty, TagMore, tag_ends, one_attribute, SpaceOr, NameMore, AttributeMore}
-use Rattle.pn_scan.specs.Step.{step, step_tag}
+use Rattle.pn_scan.specs.NextState.{next_state, next_in_tag}
 use Rattle.pn_scan.proofs.Tools.{Law, law_if, law_some, law_none, law_at, head_is, tail_is, differs, apart}
 use Rattle.pn_scan.proofs.Spans.{span_in, span_out, Front, here, there, front_of, all_more, name_parts, name_has, start_no_space, part_no_space, space_maybe, space_more}
 use Rattle.pn_scan.proofs.DueLaws.{behind_goes, behind_comes}
@@ -117,7 +117,7 @@ module _ (levels : ℕ) (outer : List Element) where
   no_end e x N t c h k (opens rest r w) = differs x 62 c rest k w
   no_end e x N t c h k (closes_empty rest r w) = differs x 47 c (62 ∷ rest) h w
 
-  pub law_tag : (e : Element) (spaced : Bool) (at x : ℕ) → Law (Rest (in_tag levels outer e spaced)) at x (step_tag levels outer e spaced x)
+  pub law_tag : (e : Element) (spaced : Bool) (at x : ℕ) → Law (Rest (in_tag levels outer e spaced)) at x (next_in_tag levels outer e spaced x)
   law_tag e spaced at x =
       let R = Rest (in_tag levels outer e spaced) in
       let slash = due (codes ">") (behind_element (suc levels) outer e) in
@@ -171,10 +171,10 @@ module _ (levels : ℕ) (outer : List Element) where
   name_under at name h N t c m =
       record { more = []; rest = c; is_name = subst Name (sym (append-nil name)) h; goes_on = subst (λ l. TagMore N t levels outer false (named l at) c) (sym (append-nil name)) m; whole = refl }
 
-  pub law_name : (begin : ℕ) (name : List ℕ) → Name name → (at x : ℕ) → Law (Rest (in_name levels outer begin name)) at x (step (in_name levels outer begin name) at x)
+  pub law_name : (begin : ℕ) (name : List ℕ) → Name name → (at x : ℕ) → Law (Rest (in_name levels outer begin name)) at x (next_state (in_name levels outer begin name) at x)
   law_name begin name is at x =
       let R = Rest (in_name levels outer begin name) in
-      law_if R at x (is_name_part x) (Some (in_name levels outer begin (name ++ (x ∷ [])))) (step_tag levels outer (named name begin) false x)
+      law_if R at x (is_name_part x) (Some (in_name levels outer begin (name ++ (x ∷ [])))) (next_in_tag levels outer (named name begin) false x)
       (λ h. law_some R at x (in_name levels outer begin (name ++ (x ∷ []))) (name_goes begin name x h) (name_comes begin name x))
       (λ h. let l = law_tag (named name begin) false at x in record {
         goes = λ N t c w m. l.goes N t c w (name_over begin name x h N t c m);

@@ -1,57 +1,14 @@
 -- Texts, byte by byte.
-use Rattle.std.proofs.Common.{◌≡◌, ◌⊎◌, inl, inr, ℕ, ◌≤◌, ◌<◌, nat_le, Bool, true, false, cond, ◌&&◌, ◌||◌, ◌==◌, List, [], ◌∷◌, ◌++◌, Option, Some, None, refl, sym, ap, ◌∙◌, subst, append_assoc, append-nil, arith}
+use Rattle.std.proofs.Common.{◌≡◌, ◌⊎◌, inl, inr, ℕ, ◌≤◌, ◌<◌, nat_le, Bool, true, false, cond, ◌&&◌, ◌||◌, ◌==◌, List, [], ◌∷◌, ◌++◌, Some, None, refl, sym, ap, ◌∙◌, subst, append_assoc, append-nil, arith}
 use Rattle.std.specs.List.{list_all, flat_map}
-use Rattle.std.specs.Str.{chars, encode_utf8_all, bytes_eq}
 use Rattle.std.proofs.lemmas.Bool.{false≢true, and_parts, and_from, or_cases, cases_eq, cases_lt, leb-true, false_from_ne_true}
-use Rattle.std.proofs.lemmas.Bool.Decides.{nat_tests}
-use Rattle.std.proofs.lemmas.Slice.Eq.{bytes_eq-Decides}
-use Rattle.std.proofs.lemmas.Str.{chars-encodes}
-use lib.Utf8.{scalar, scalars, encode}
-use Rattle.pn_text.specs.Characters.{is_within, is_character, characters_of, utf8_of, is_text}
-use Rattle.pn_text.proofs.TextLemmas.{is_text-append}
-use Rattle.pn_scan.specs.Characters.{is_whole, is_begun, is_further, begin_three, begin_four, is_last_pair, character_behind, character_step, IsOpen, Cut}
+use Rattle.pn_text.specs.Characters.{is_within, is_character, utf8_of, is_text}
+use Rattle.pn_text.proofs.TextLemmas.{is_text-append, is_text-character, text_characters, characters_text}
+use Rattle.pn_scan.specs.Characters.{is_whole, is_begun, is_further, begin_three, begin_four, is_last_pair, character_behind, open_behind, AreOpen, Cut}
 use Rattle.pn_scan.proofs.CharacterLemmas.{begins_three, begins_four, within_from, lt_of, whole_is, whole_bytes, whole_front, begun_front, begun_not_whole}
 
-chars_are : (bs : List ℕ) → characters_of bs ≡ chars bs
-unfolding chars
-chars_are [] = refl
-chars_are (b ∷ bs) = refl
-
-is_character-scalar : (c : ℕ) → is_character c ≡ true → scalar c ≡ true
-is_character-scalar c h = grind (arith, nat_tests)
-
-utf8_is : (c : ℕ) → utf8_of c ≡ encode c
-unfolding encode
-utf8_is c = refl
-
--- a character alone is a text
-pub text_one : (c : ℕ) → is_character c ≡ true → is_text (utf8_of c) ≡ true
-text_one c h =
-    let s : scalars (c ∷ []) ≡ true = and_from (scalar c) true (is_character-scalar c h) refl in
-    let e : encode_utf8_all (c ∷ []) ≡ utf8_of c = append-nil (encode c) ∙ sym (utf8_is c) in
-    let cs : characters_of (utf8_of c) ≡ c ∷ [] = chars_are (utf8_of c) ∙ ap chars (sym e) ∙ chars-encodes (c ∷ []) s in
-    subst (λ l. (list_all is_character l && bytes_eq (flat_map utf8_of l) (utf8_of c)) ≡ true) (sym cs)
-    (and_from (list_all is_character (c ∷ [])) (bytes_eq (flat_map utf8_of (c ∷ [])) (utf8_of c)) (and_from (is_character c) true h refl)
-    ((bytes_eq-Decides (flat_map utf8_of (c ∷ [])) (utf8_of c)).1 (append-nil (utf8_of c))))
-
 pub whole_text : (q : List ℕ) → is_whole q ≡ true → is_text q ≡ true
-whole_text q h = let w = whole_is q h in subst (λ l. is_text l ≡ true) w.bytes (text_one w.number w.is)
-
--- the characters of a text
-pub record Characters (b : List ℕ) : Type 0 where
-  pub all : List ℕ
-  pub are : list_all is_character all ≡ true
-  pub bytes : flat_map utf8_of all ≡ b
-
-pub text_characters : (b : List ℕ) → is_text b ≡ true → Characters b
-text_characters b h =
-    let both = and_parts (list_all is_character (characters_of b)) (bytes_eq (flat_map utf8_of (characters_of b)) b) h in
-    record { all = characters_of b; are = both.0; bytes = (bytes_eq-Decides (flat_map utf8_of (characters_of b)) b).0 both.1 }
-
-pub characters_text : (cs : List ℕ) → list_all is_character cs ≡ true → is_text (flat_map utf8_of cs) ≡ true
-characters_text [] h = refl
-characters_text (c ∷ cs) h =
-    let both = and_parts (is_character c) (list_all is_character cs) h in is_text-append (utf8_of c) (flat_map utf8_of cs) (text_one c both.0) (characters_text cs both.1)
+whole_text q h = let w = whole_is q h in subst (λ l. is_text l ≡ true) w.bytes (is_text-character w.number w.is)
 
 -- one list begins another
 data Compare (a d y rest : List ℕ) : Type 0 where
@@ -82,18 +39,18 @@ no_front [] more h k = false≢true h
 no_front (x ∷ y) more h k = begun_not_whole (x ∷ y) (begun_front x y more k) h
 
 -- the first character of a text that begins with open bytes and one more
-pub record Next (p : List ℕ) (x : ℕ) (c : List ℕ) : Type 0 where
+pub record FirstCharacter (p : List ℕ) (x : ℕ) (c : List ℕ) : Type 0 where
   pub open_bytes : List ℕ
-  pub is : character_step p x ≡ Some open_bytes
+  pub is : open_behind p x ≡ Some open_bytes
   pub rest : is_text (open_bytes ++ c) ≡ true
 
-step_whole : (q : List ℕ) → is_whole q ≡ true → character_behind q ≡ Some []
-step_whole q h = ap (λ b. cond b (Some []) (cond (is_begun q) (Some q) None)) h
+open_whole : (q : List ℕ) → is_whole q ≡ true → character_behind q ≡ Some []
+open_whole q h = ap (λ b. cond b (Some []) (cond (is_begun q) (Some q) None)) h
 
-step_begun : (q : List ℕ) → is_begun q ≡ true → character_behind q ≡ Some q
-step_begun q h = ap (λ b. cond b (Some []) (cond (is_begun q) (Some q) None)) (false_from_ne_true (is_whole q) (λ k. begun_not_whole q h k)) ∙ ap (λ b. cond b (Some q) None) h
+open_begun_so : (q : List ℕ) → is_begun q ≡ true → character_behind q ≡ Some q
+open_begun_so q h = ap (λ b. cond b (Some []) (cond (is_begun q) (Some q) None)) (false_from_ne_true (is_whole q) (λ k. begun_not_whole q h k)) ∙ ap (λ b. cond b (Some q) None) h
 
-open_begun : (p : List ℕ) (x : ℕ) → IsOpen p → (y : List ℕ) (m : ℕ) (more : List ℕ) → is_whole y ≡ true → p ++ (x ∷ []) ≡ y ++ (m ∷ more) → ⊥
+open_begun : (p : List ℕ) (x : ℕ) → AreOpen p → (y : List ℕ) (m : ℕ) (more : List ℕ) → is_whole y ≡ true → p ++ (x ∷ []) ≡ y ++ (m ∷ more) → ⊥
 open_begun [] x o [] m more h e = false≢true h
 open_begun [] x o (z ∷ y) m more h e = nothing y (tail_of x z y m more e)
   where
@@ -114,10 +71,10 @@ open_begun (b ∷ p) x o y m more h e = go (compare (b ∷ p) (x ∷ []) y (m �
         short [] j = absurd cc
         short (w ∷ l) j = absurd cc
 
-pub text_goes : (p : List ℕ) (x : ℕ) (c : List ℕ) → IsOpen p → is_text (p ++ (x ∷ c)) ≡ true → Next p x c
-text_goes p x c o h = let t = text_characters (p ++ (x ∷ c)) h in go t.all t.are t.bytes
+pub text_goes : (p : List ℕ) (x : ℕ) (c : List ℕ) → AreOpen p → is_text (p ++ (x ∷ c)) ≡ true → FirstCharacter p x c
+text_goes p x c o h = let t = text_characters (p ++ (x ∷ c)) h in go t.spelled t.are_characters t.bytes
   where
-    go : (cs : List ℕ) → list_all is_character cs ≡ true → flat_map utf8_of cs ≡ p ++ (x ∷ c) → Next p x c
+    go : (cs : List ℕ) → list_all is_character cs ≡ true → flat_map utf8_of cs ≡ p ++ (x ∷ c) → FirstCharacter p x c
     go [] a e = absurd (nothing p e)
       where
         nothing : (p : List ℕ) → [] ≡ p ++ (x ∷ c) → ⊥
@@ -128,17 +85,17 @@ text_goes p x c o h = let t = text_characters (p ++ (x ∷ c)) h in go t.all t.a
         both : (is_character k ≡ true) × (list_all is_character cs ≡ true)
         both = and_parts (is_character k) (list_all is_character cs) a
 
-        cases : Compare (p ++ (x ∷ [])) c (utf8_of k) (flat_map utf8_of cs) → Next p x c
+        cases : Compare (p ++ (x ∷ [])) c (utf8_of k) (flat_map utf8_of cs) → FirstCharacter p x c
         cases (same i j) =
             record {
               open_bytes = [];
-              is = step_whole (p ++ (x ∷ [])) (subst (λ l. is_whole l ≡ true) (sym i) (whole_bytes k both.0));
-              rest = subst (λ l. is_text l ≡ true) (sym j) (characters_text cs both.1);
+              is = open_whole (p ++ (x ∷ [])) (subst (λ l. is_whole l ≡ true) (sym i) (whole_bytes k both.0));
+              rest = subst (λ l. is_text l ≡ true) (sym j) (characters_text (flat_map utf8_of cs) (record { spelled = cs; are_characters = both.1; bytes = refl }));
             }
         cases (shorter m more i j) =
             record {
               open_bytes = p ++ (x ∷ []);
-              is = step_begun (p ++ (x ∷ [])) (begun p (subst (λ l. is_whole l ≡ true) i (whole_bytes k both.0)));
+              is = open_begun_so (p ++ (x ∷ [])) (begun p (subst (λ l. is_whole l ≡ true) i (whole_bytes k both.0)));
               rest = subst (λ l. is_text l ≡ true) (sym (append_assoc p (x ∷ []) c)) h;
             }
           where
@@ -147,24 +104,10 @@ text_goes p x c o h = let t = text_characters (p ++ (x ∷ c)) h in go t.all t.a
             begun (b ∷ p) h = whole_front b (p ++ (x ∷ [])) m more h
         cases (longer m more i j) = absurd (open_begun p x o (utf8_of k) m more (whole_bytes k both.0) i)
 
--- what a step answers
-data Behind (q : List ℕ) : Option (List ℕ) → Type 0 where
-  whole : is_whole q ≡ true → Behind q (Some [])
-  begun : is_begun q ≡ true → Behind q (Some q)
-  neither : Behind q None
-
-behind_of : (q : List ℕ) → Behind q (character_behind q)
-behind_of q = go (is_whole q) (is_begun q) refl refl
-  where
-    go : (a b : Bool) → is_whole q ≡ a → is_begun q ≡ b → Behind q (cond a (Some []) (cond b (Some q) None))
-    go true b h k = whole h
-    go false true h k = begun k
-    go false false h k = neither
-
 -- the same as an alternative
-pub step_cases : (p : List ℕ) (x : ℕ) (o : List ℕ) → character_step p x ≡ Some o
+pub open_cases : (p : List ℕ) (x : ℕ) (o : List ℕ) → open_behind p x ≡ Some o
     → ((is_whole (p ++ (x ∷ [])) ≡ true) × (o ≡ [])) ⊎ ((is_begun (p ++ (x ∷ [])) ≡ true) × (o ≡ p ++ (x ∷ [])))
-step_cases p x o e = go (is_whole (p ++ (x ∷ []))) (is_begun (p ++ (x ∷ []))) refl refl e
+open_cases p x o e = go (is_whole (p ++ (x ∷ []))) (is_begun (p ++ (x ∷ []))) refl refl e
   where
     q : List ℕ
     q = p ++ (x ∷ [])
@@ -175,28 +118,28 @@ step_cases p x o e = go (is_whole (p ++ (x ∷ []))) (is_begun (p ++ (x ∷ []))
     go false true h k i = inr (k, cc)
     go false false h k i = absurd cc
 
-pub text_comes : (p : List ℕ) (x : ℕ) (c o : List ℕ) → character_step p x ≡ Some o → is_text (o ++ c) ≡ true → is_text (p ++ (x ∷ c)) ≡ true
-text_comes p x c o e h = go (step_cases p x o e)
+pub text_comes : (p : List ℕ) (x : ℕ) (c o : List ℕ) → open_behind p x ≡ Some o → is_text (o ++ c) ≡ true → is_text (p ++ (x ∷ c)) ≡ true
+text_comes p x c o e h = go (open_cases p x o e)
   where
     go : ((is_whole (p ++ (x ∷ [])) ≡ true) × (o ≡ [])) ⊎ ((is_begun (p ++ (x ∷ [])) ≡ true) × (o ≡ p ++ (x ∷ []))) → is_text (p ++ (x ∷ c)) ≡ true
     go (inl k) = subst (λ l. is_text l ≡ true) (append_assoc p (x ∷ []) c) (is_text-append (p ++ (x ∷ [])) c (whole_text (p ++ (x ∷ [])) k.0) (subst (λ l. is_text (l ++ c) ≡ true) k.1 h))
     go (inr k) = subst (λ l. is_text l ≡ true) (append_assoc p (x ∷ []) c) (subst (λ l. is_text (l ++ c) ≡ true) k.1 h)
 
--- a step leaves open bytes
-pub step_open : (p : List ℕ) (x : ℕ) (o : List ℕ) → character_step p x ≡ Some o → IsOpen o
-step_open p x o e = go (step_cases p x o e)
+-- behind a byte that is taken there are open bytes
+pub open_still : (p : List ℕ) (x : ℕ) (o : List ℕ) → open_behind p x ≡ Some o → AreOpen o
+open_still p x o e = go (open_cases p x o e)
   where
-    begun_open : (q : List ℕ) → is_begun q ≡ true → IsOpen q
+    begun_open : (q : List ℕ) → is_begun q ≡ true → AreOpen q
     begun_open [] h = tt
     begun_open (b ∷ q) h = h
 
-    go : ((is_whole (p ++ (x ∷ [])) ≡ true) × (o ≡ [])) ⊎ ((is_begun (p ++ (x ∷ [])) ≡ true) × (o ≡ p ++ (x ∷ []))) → IsOpen o
-    go (inl k) = subst IsOpen (sym k.1) tt
-    go (inr k) = subst IsOpen (sym k.1) (begun_open (p ++ (x ∷ [])) k.0)
+    go : ((is_whole (p ++ (x ∷ [])) ≡ true) × (o ≡ [])) ⊎ ((is_begun (p ++ (x ∷ [])) ≡ true) × (o ≡ p ++ (x ∷ []))) → AreOpen o
+    go (inl k) = subst AreOpen (sym k.1) tt
+    go (inr k) = subst AreOpen (sym k.1) (begun_open (p ++ (x ∷ [])) k.0)
 
 -- whole characters and open bytes, and one more byte
-pub cut_next : (b p : List ℕ) (x : ℕ) (o : List ℕ) → character_step p x ≡ Some o → Cut b p → Cut (b ++ (x ∷ [])) o
-cut_next b p x o e (w, t, i) = go (step_cases p x o e)
+pub cut_next : (b p : List ℕ) (x : ℕ) (o : List ℕ) → open_behind p x ≡ Some o → Cut b p → Cut (b ++ (x ∷ [])) o
+cut_next b p x o e (w, t, i) = go (open_cases p x o e)
   where
     all : b ++ (x ∷ []) ≡ w ++ (p ++ (x ∷ []))
     all = ap (λ l. l ++ (x ∷ [])) i ∙ append_assoc w p (x ∷ [])
@@ -281,22 +224,22 @@ last_begun b (c ∷ d ∷ p) x h k = go p k
     go [] k = false≢true k
     go (f ∷ p) k = false≢true k
 
-pub ascii_alone : (p : List ℕ) (x : ℕ) (o : List ℕ) → x < 0x80 → character_step p x ≡ Some o → (p ≡ []) × (o ≡ [])
-ascii_alone [] x o h e = (refl, go (step_cases [] x o e))
+pub ascii_alone : (p : List ℕ) (x : ℕ) (o : List ℕ) → x < 0x80 → open_behind p x ≡ Some o → (p ≡ []) × (o ≡ [])
+ascii_alone [] x o h e = (refl, go (open_cases [] x o e))
   where
     go : ((is_whole (x ∷ []) ≡ true) × (o ≡ [])) ⊎ ((is_begun (x ∷ []) ≡ true) × (o ≡ x ∷ [])) → o ≡ []
     go (inl k) = k.1
     go (inr k) = absurd (not_within 0xC2 0xF4 x (omega arith) k.0)
-ascii_alone (b ∷ p) x o h e = go (step_cases (b ∷ p) x o e)
+ascii_alone (b ∷ p) x o h e = go (open_cases (b ∷ p) x o e)
   where
     go : ((is_whole ((b ∷ p) ++ (x ∷ [])) ≡ true) × (o ≡ [])) ⊎ ((is_begun ((b ∷ p) ++ (x ∷ [])) ≡ true) × (o ≡ (b ∷ p) ++ (x ∷ []))) → (b ∷ p ≡ []) × (o ≡ [])
     go (inl k) = absurd (last_further b p x h k.0)
     go (inr k) = absurd (last_begun b p x h k.0)
 
 -- open bytes are no text
-pub open_text : (p : List ℕ) → IsOpen p → is_text p ≡ true → p ≡ []
+pub open_text : (p : List ℕ) → AreOpen p → is_text p ≡ true → p ≡ []
 open_text [] o h = refl
-open_text (b ∷ p) o h = let t = text_characters (b ∷ p) h in go t.all t.are t.bytes
+open_text (b ∷ p) o h = let t = text_characters (b ∷ p) h in go t.spelled t.are_characters t.bytes
   where
     go : (cs : List ℕ) → list_all is_character cs ≡ true → flat_map utf8_of cs ≡ b ∷ p → b ∷ p ≡ []
     go [] a e = sym e
@@ -304,7 +247,7 @@ open_text (b ∷ p) o h = let t = text_characters (b ∷ p) h in go t.all t.are 
         absurd (no_front (utf8_of k) (flat_map utf8_of cs) (whole_bytes k (and_parts (is_character k) (list_all is_character cs) a).0) (subst (λ l. is_begun l ≡ true) (sym e) o))
 
 -- open bytes can be completed
-pub record Filled (p : List ℕ) : Type 0 where
+pub record CanBeFilled (p : List ℕ) : Type 0 where
   pub more : List ℕ
   pub high : list_all (nat_le 0x80) more ≡ true
   pub is : is_whole (p ++ more) ≡ true
@@ -317,7 +260,7 @@ no_pair a b = go (a == 0xEF) (b == 0xBF)
     go true false = refl
     go false q = refl
 
-fill_one : (a : ℕ) → is_within 0xC2 0xF4 a ≡ true → Filled (a ∷ [])
+fill_one : (a : ℕ) → is_within 0xC2 0xF4 a ≡ true → CanBeFilled (a ∷ [])
 fill_one a h = go (cases_lt a 0xE0) (cases_eq a 0xE0) (cases_lt a 0xF0) (cases_eq a 0xF0)
   where
     both : (nat_le 0xC2 a ≡ true) × (nat_le a 0xF4 ≡ true)
@@ -335,7 +278,7 @@ fill_one a h = go (cases_lt a 0xE0) (cases_eq a 0xE0) (cases_lt a 0xF0) (cases_e
     four : 0xF0 < a → a ≤ 0xF4 → begin_four a 0x80 ≡ true
     four l u = begins_four a 0x80 (omega arith) u (omega arith) (omega arith) (λ e. absurd (omega arith)) (λ e. omega arith)
 
-    go : (a < 0xE0) ⊎ (0xE0 ≤ a) → (a ≡ 0xE0) ⊎ (a ≡ 0xE0 → ⊥) → (a < 0xF0) ⊎ (0xF0 ≤ a) → (a ≡ 0xF0) ⊎ (a ≡ 0xF0 → ⊥) → Filled (a ∷ [])
+    go : (a < 0xE0) ⊎ (0xE0 ≤ a) → (a ≡ 0xE0) ⊎ (a ≡ 0xE0 → ⊥) → (a < 0xF0) ⊎ (0xF0 ≤ a) → (a ≡ 0xF0) ⊎ (a ≡ 0xF0 → ⊥) → CanBeFilled (a ∷ [])
     go (inl l) f g k = let lo = low in record { more = 0x80 ∷ []; high = refl; is = and_from (is_within 0xC2 0xDF a) true (within_from 0xC2 0xDF a lo (omega arith)) refl }
     go (inr l) (inl f) g k = record { more = 0xA0 ∷ 0x80 ∷ []; high = refl; is = subst (λ y. is_whole (y ∷ 0xA0 ∷ 0x80 ∷ []) ≡ true) (sym f) refl }
     go (inr l) (inr f) (inl g) k =
@@ -350,11 +293,11 @@ fill_one a h = go (cases_lt a 0xE0) (cases_eq a 0xE0) (cases_lt a 0xF0) (cases_e
         let up : 0xF0 < a = lt_of 0xF0 a g (λ q. k (sym q)) in
         record { more = 0x80 ∷ 0x80 ∷ 0x80 ∷ []; high = refl; is = and_from (begin_four a 0x80) true (four up high) refl }
 
-pub fill : (b : ℕ) (p : List ℕ) → is_begun (b ∷ p) ≡ true → Filled (b ∷ p)
+pub fill : (b : ℕ) (p : List ℕ) → is_begun (b ∷ p) ≡ true → CanBeFilled (b ∷ p)
 fill a [] h = fill_one a h
 fill a (b ∷ []) h = go (or_cases (begin_three a b) (begin_four a b) h)
   where
-    go : (begin_three a b ≡ true) ⊎ (begin_four a b ≡ true) → Filled (a ∷ b ∷ [])
+    go : (begin_three a b ≡ true) ⊎ (begin_four a b ≡ true) → CanBeFilled (a ∷ b ∷ [])
     go (inl k) = record { more = 0x80 ∷ []; high = refl; is = and_from (begin_three a b) (cond (is_last_pair a b 0x80) false (is_further 0x80)) k (ap (λ t. cond t false true) (no_pair a b)) }
     go (inr k) = record { more = 0x80 ∷ 0x80 ∷ []; high = refl; is = and_from (begin_four a b) true k refl }
 fill a (b ∷ c ∷ []) h =

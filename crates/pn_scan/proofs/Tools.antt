@@ -1,11 +1,11 @@
--- What a step has to keep, and how lists begin.
+-- What a byte has to keep, and how lists begin.
 use Rattle.std.proofs.Common.{◌≡◌, ℕ, suc, ◌+◌, Bool, true, false, cond, ◌==◌, List, [], ◌∷◌, length, Option, Some, None, sym, ap, ◌∙◌, subst}
 use Rattle.std.proofs.lemmas.Bool.{false≢true, eqb-true, eqb-false, cond_both}
 use Rattle.pn_tree.specs.declared.element.Element.{Element}
 use Rattle.pn_scan.specs.State.{State}
 use Rattle.pn_scan.specs.Rest.{Rest}
 
--- the meaning of what a step answers
+-- the meaning of the state that comes next, if one does
 abbrev pub Case : Option State → ℕ → Element → List ℕ → Type 0
 Case None N t c = ⊥
 Case (Some s) N t c = Rest s N t c

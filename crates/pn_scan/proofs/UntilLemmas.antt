@@ -3,9 +3,9 @@ use Rattle.std.proofs.Common.{◌≡◌, ℕ, Bool, true, false, not, ◌&&◌, 
 use Rattle.std.proofs.lemmas.Bool.{false≢true, eqb-false, ne_eqb}
 use Rattle.pn_markup.specs.Bytes.{begins_with, lacks}
 use Rattle.pn_tree.specs.declared.element.Element.{Element}
-use Rattle.pn_scan.specs.State.{Place, before, within, behind, due, in_comment, behind_item}
+use Rattle.pn_scan.specs.State.{Nesting, before, within, behind, due, in_comment, behind_piece}
 use Rattle.pn_scan.specs.Rest.{Rest, Until, Resumed, is_comment}
-use Rattle.pn_scan.specs.Step.{step_comment}
+use Rattle.pn_scan.specs.NextState.{next_in_comment}
 use Rattle.pn_scan.proofs.Tools.{Law, law_if, law_some, law_at, head_is, tail_is, differs}
 
 pub not_same : (x k : ℕ) → (x == k) ≡ false → (k == x) ≡ false
@@ -77,49 +77,49 @@ lacks_two m k ms x bs no_m no_k =
 
 -- comments
 
--- behind an item it goes on as its state says
-pub resumed_goes : (place : Place) (N : ℕ) (t : Element) (c : List ℕ) → Resumed N t place c → Rest (behind_item place) N t c
+-- behind a piece it goes on as its state says
+pub resumed_goes : (nesting : Nesting) (N : ℕ) (t : Element) (c : List ℕ) → Resumed N t nesting c → Rest (behind_piece nesting) N t c
 resumed_goes before N t c r = r
 resumed_goes (within levels e outer) N t c r = r
 resumed_goes (behind root) N t c r = r
 
-pub resumed_comes : (place : Place) (N : ℕ) (t : Element) (c : List ℕ) → Rest (behind_item place) N t c → Resumed N t place c
+pub resumed_comes : (nesting : Nesting) (N : ℕ) (t : Element) (c : List ℕ) → Rest (behind_piece nesting) N t c → Resumed N t nesting c
 resumed_comes before N t c r = r
 resumed_comes (within levels e outer) N t c r = r
 resumed_comes (behind root) N t c r = r
 
-abbrev pub CommentEnd : ℕ → Element → Place → List ℕ → List ℕ → Type 0
-CommentEnd N t place text after = (more : List ℕ) × Resumed N t place more × (after ≡ 62 ∷ more)
+abbrev pub CommentEnd : ℕ → Element → Nesting → List ℕ → List ℕ → Type 0
+CommentEnd N t nesting text after = (more : List ℕ) × Resumed N t nesting more × (after ≡ 62 ∷ more)
 
-dashes_go : (N : ℕ) (t : Element) (place : Place) (c : List ℕ) → Until (codes "--") is_comment (CommentEnd N t place) (45 ∷ 45 ∷ c) → Rest (due (codes ">") (behind_item place)) N t c
-dashes_go N t place c u = go u.text u.good u.whole
+dashes_go : (N : ℕ) (t : Element) (nesting : Nesting) (c : List ℕ) → Until (codes "--") is_comment (CommentEnd N t nesting) (45 ∷ 45 ∷ c) → Rest (due (codes ">") (behind_piece nesting)) N t c
+dashes_go N t nesting c u = go u.text u.good u.whole
   where
-    go : (text : List ℕ) → is_comment text ≡ true → 45 ∷ 45 ∷ c ≡ text ++ (codes "--" ++ u.rest) → Rest (due (codes ">") (behind_item place)) N t c
+    go : (text : List ℕ) → is_comment text ≡ true → 45 ∷ 45 ∷ c ≡ text ++ (codes "--" ++ u.rest) → Rest (due (codes ">") (behind_piece nesting)) N t c
     go [] g e =
         let c_is : c ≡ u.rest = tail_is 45 45 c u.rest (tail_is 45 45 (45 ∷ c) (45 ∷ u.rest) e) in
-        (u.goes_on.0, resumed_goes place N t u.goes_on.0 u.goes_on.1, c_is ∙ u.goes_on.2)
+        (u.goes_on.0, resumed_goes nesting N t u.goes_on.0 u.goes_on.1, c_is ∙ u.goes_on.2)
     go (a ∷ []) g e = absurd (false≢true (subst (λ w. is_comment (w ∷ []) ≡ true) (sym (head_is 45 a (45 ∷ c) (codes "--" ++ u.rest) e)) g))
     go (a ∷ b ∷ text) g e =
         let a_is : a ≡ 45 = sym (head_is 45 a (45 ∷ c) (b ∷ (text ++ (codes "--" ++ u.rest))) e) in
         let b_is : b ≡ 45 = sym (head_is 45 b c (text ++ (codes "--" ++ u.rest)) (tail_is 45 a (45 ∷ c) (b ∷ (text ++ (codes "--" ++ u.rest))) e)) in
         absurd (false≢true (subst (λ w. is_comment (w ∷ 45 ∷ text) ≡ true) a_is (subst (λ w. is_comment (a ∷ w ∷ text) ≡ true) b_is g)))
 
-dashes_come : (N : ℕ) (t : Element) (place : Place) (c : List ℕ) → Rest (due (codes ">") (behind_item place)) N t c → Until (codes "--") is_comment (CommentEnd N t place) (45 ∷ 45 ∷ c)
-dashes_come N t place c r =
-    record { text = []; rest = c; good = refl; goes_on = (r.0, resumed_comes place N t r.0 r.1, r.2); whole = refl }
+dashes_come : (N : ℕ) (t : Element) (nesting : Nesting) (c : List ℕ) → Rest (due (codes ">") (behind_piece nesting)) N t c → Until (codes "--") is_comment (CommentEnd N t nesting) (45 ∷ 45 ∷ c)
+dashes_come N t nesting c r =
+    record { text = []; rest = c; good = refl; goes_on = (r.0, resumed_comes nesting N t r.0 r.1, r.2); whole = refl }
 
-pub law_comment : (place : Place) (dash : Bool) (at x : ℕ) → Law (Rest (in_comment place dash)) at x (step_comment place dash x)
-law_comment place true at x =
-    law_if (Rest (in_comment place true)) at x (x == 45) (Some (due (codes ">") (behind_item place))) (Some (in_comment place false))
-    (λ h. law_at (Rest (in_comment place true)) at x 45 (Some (due (codes ">") (behind_item place))) h
-    (law_some (Rest (in_comment place true)) at 45 (due (codes ">") (behind_item place)) (λ N t c r. dashes_go N t place c r) (λ N t c r. dashes_come N t place c r)))
-    (λ h. law_some (Rest (in_comment place true)) at x (in_comment place false)
-    (λ N t c r. two_goes 45 45 [] is_comment (CommentEnd N t place) x c h h (λ text. lacks_two 45 45 [] x (text ++ codes "-") h h) r)
-    (λ N t c r. two_comes (codes "--") 45 x is_comment (CommentEnd N t place) c (λ text. lacks_two 45 45 [] x (text ++ codes "-") h h) r))
-law_comment place false at x =
-    law_if (Rest (in_comment place false)) at x (x == 45) (Some (in_comment place true)) (Some (in_comment place false))
-    (λ h. law_at (Rest (in_comment place false)) at x 45 (Some (in_comment place true)) h
-    (law_some (Rest (in_comment place false)) at 45 (in_comment place true) (λ N t c r. r) (λ N t c r. r)))
-    (λ h. law_some (Rest (in_comment place false)) at x (in_comment place false)
-    (λ N t c r. skip_goes 45 (45 ∷ []) is_comment (CommentEnd N t place) x c h (λ text. lacks_other 45 (45 ∷ []) x (text ++ codes "-") h) r)
-    (λ N t c r. skip_comes (codes "--") is_comment (CommentEnd N t place) x c (λ text. lacks_other 45 (45 ∷ []) x (text ++ codes "-") h) r))
+pub law_comment : (nesting : Nesting) (dash : Bool) (at x : ℕ) → Law (Rest (in_comment nesting dash)) at x (next_in_comment nesting dash x)
+law_comment nesting true at x =
+    law_if (Rest (in_comment nesting true)) at x (x == 45) (Some (due (codes ">") (behind_piece nesting))) (Some (in_comment nesting false))
+    (λ h. law_at (Rest (in_comment nesting true)) at x 45 (Some (due (codes ">") (behind_piece nesting))) h
+    (law_some (Rest (in_comment nesting true)) at 45 (due (codes ">") (behind_piece nesting)) (λ N t c r. dashes_go N t nesting c r) (λ N t c r. dashes_come N t nesting c r)))
+    (λ h. law_some (Rest (in_comment nesting true)) at x (in_comment nesting false)
+    (λ N t c r. two_goes 45 45 [] is_comment (CommentEnd N t nesting) x c h h (λ text. lacks_two 45 45 [] x (text ++ codes "-") h h) r)
+    (λ N t c r. two_comes (codes "--") 45 x is_comment (CommentEnd N t nesting) c (λ text. lacks_two 45 45 [] x (text ++ codes "-") h h) r))
+law_comment nesting false at x =
+    law_if (Rest (in_comment nesting false)) at x (x == 45) (Some (in_comment nesting true)) (Some (in_comment nesting false))
+    (λ h. law_at (Rest (in_comment nesting false)) at x 45 (Some (in_comment nesting true)) h
+    (law_some (Rest (in_comment nesting false)) at 45 (in_comment nesting true) (λ N t c r. r) (λ N t c r. r)))
+    (λ h. law_some (Rest (in_comment nesting false)) at x (in_comment nesting false)
+    (λ N t c r. skip_goes 45 (45 ∷ []) is_comment (CommentEnd N t nesting) x c h (λ text. lacks_other 45 (45 ∷ []) x (text ++ codes "-") h) r)
+    (λ N t c r. skip_comes (codes "--") is_comment (CommentEnd N t nesting) x c (λ text. lacks_other 45 (45 ∷ []) x (text ++ codes "-") h) r))

@@ -9,7 +9,7 @@ use Rattle.pn_markup.specs.Tags.{ValueText, is_value_byte}
 use Rattle.pn_tree.specs.declared.element.Element.{Element}
 use Rattle.pn_scan.specs.State.{in_tag, in_value, at_reference, of_value}
 use Rattle.pn_scan.specs.Rest.{Rest, TagMore, ValueMore, ValueBehind, last_run, next_reference}
-use Rattle.pn_scan.specs.Step.{step_value, space_text}
+use Rattle.pn_scan.specs.NextState.{next_in_value, space_text}
 use Rattle.pn_scan.proofs.Tools.{Law, law_if, law_some, law_none, law_at, head_is, tail_is, differs}
 use Rattle.pn_scan.proofs.Spans.{Front, here, there, front_of, all_first, all_rest, all_more}
 use Rattle.pn_scan.proofs.AttributeLaws.{value_in, value_out}
@@ -148,7 +148,7 @@ module _ (levels : ℕ) (outer : List Element) (e : Element) (name : List ℕ) (
       and_from (not (x == quote)) (not (x == 60) && not (x == 38)) (not_from_false (x == quote) no_quote) (and_from (not (x == 60)) (not (x == 38)) (not_from_false (x == 60) no_less) (not_from_false (x == 38) no_ref)) in
       record { complete = m.complete; b = x ∷ m.b; rest = m.rest; spells = value_run quote cr value m.complete x m.b byte m.spells; goes_on = m.goes_on; whole = ap (λ l. x ∷ l) m.whole }
 
-  pub law_value : (value : List ℕ) (cr : Bool) (at x : ℕ) → Law (Rest (in_value levels outer e name quote value cr)) at x (step_value levels outer e name quote value cr x)
+  pub law_value : (value : List ℕ) (cr : Bool) (at x : ℕ) → Law (Rest (in_value levels outer e name quote value cr)) at x (next_in_value levels outer e name quote value cr x)
   law_value value cr at x =
       let R = Rest (in_value levels outer e name quote value cr) in
       let tag = in_tag levels outer (with_attr name value e) false in

@@ -40,13 +40,13 @@ abbrev pub character_behind : List ℕ → Option (List ℕ)
 character_behind bytes = if is_whole bytes then Some [] else (if is_begun bytes then Some bytes else None)
 
 -- one more byte behind those of a character that is not whole yet: those that are open then, or none where no document goes on so
-abbrev pub character_step : List ℕ → ℕ → Option (List ℕ)
-character_step open_bytes x = character_behind (open_bytes ++ (x ∷ []))
+abbrev pub open_behind : List ℕ → ℕ → Option (List ℕ)
+open_behind open_bytes x = character_behind (open_bytes ++ (x ∷ []))
 
 -- no bytes, or those of a character that is not whole yet
-abbrev pub IsOpen : List ℕ → Type 0
-IsOpen [] = Unit {0}
-IsOpen (b ∷ bs) = is_begun (b ∷ bs) ≡ true
+abbrev pub AreOpen : List ℕ → Type 0
+AreOpen [] = Unit {0}
+AreOpen (b ∷ bs) = is_begun (b ∷ bs) ≡ true
 
 -- whole characters, and the open bytes behind them
 abbrev pub Cut : List ℕ → List ℕ → Type 0

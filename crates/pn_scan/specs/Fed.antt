@@ -5,13 +5,13 @@ use Rattle.pn_tree.specs.declared.element.Element.{Element}
 use Rattle.pn_markup.specs.Document.{Markup}
 use Rattle.pn_scan.specs.State.{State}
 use Rattle.pn_scan.specs.Rest.{Rest}
-use Rattle.pn_scan.specs.Characters.{IsOpen}
+use Rattle.pn_scan.specs.Characters.{AreOpen}
 use Rattle.pn_scan.specs.Viable.{IsViable}
 
 -- the state s, with the open bytes p of a character, was reached by the bytes b: behind b a document goes on exactly as it goes on from the state
 pub record Fed (s : State) (p b : List ℕ) : Type 0 where
   pub viable : IsViable s (length b) p
-  pub is_open : IsOpen p
+  pub is_open : AreOpen p
   pub text_goes : (c : List ℕ) → is_text (b ++ c) ≡ true → is_text (p ++ c) ≡ true
   pub text_comes : (c : List ℕ) → is_text (p ++ c) ≡ true → is_text (b ++ c) ≡ true
   pub goes : (t : Element) (c : List ℕ) → Markup t (b ++ c) → Rest s (length (b ++ c)) t c

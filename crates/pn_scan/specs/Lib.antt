@@ -1,11 +1,11 @@
 pub mod State
 pub mod Rest
-pub mod Step
+pub mod NextState
 pub mod Characters
 pub mod Viable
-pub mod Places
-pub mod Modes
+pub mod Nestings
+pub mod Contexts
 pub mod Open
 pub mod Fed
 pub mod Reading
-pub mod Plain
+pub mod Ordinary

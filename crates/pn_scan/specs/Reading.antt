@@ -3,23 +3,23 @@ use Rattle.std.specs.Prelude.{◌≡◌, ℕ, ◌<◌, ◌≤◌, Bool, true, fa
 use Rattle.pn_outside.specs.declared.limits.TheConstants.{BYTES}
 use Rattle.pn_markup.specs.Document.{IsDocument, IsFront, IsBreak}
 use Rattle.pn_tree.specs.declared.element.Element.{Element}
-use Rattle.pn_scan.specs.State.{Place, at_end}
-use Rattle.pn_scan.specs.Places.{place_of, inner_of, Belongs}
-use Rattle.pn_scan.specs.Modes.{state_of, Fits}
+use Rattle.pn_scan.specs.State.{Nesting, at_end}
+use Rattle.pn_scan.specs.Nestings.{nesting_of, inner_of, Belongs}
+use Rattle.pn_scan.specs.Contexts.{state_of, Admits}
 use Rattle.pn_scan.specs.Open.{open_bytes}
 use Rattle.pn_scan.specs.Fed.{Fed}
 use Rattle.pn_scan.specs.declared.open_tree.OpenTree.{OpenTree}
-use Rattle.pn_scan.specs.declared.mode.Mode.{Mode}
+use Rattle.pn_scan.specs.declared.context.Context.{Context}
 use Rattle.pn_scan.specs.declared.characters.Open.{Open}
 use Rattle.pn_scan.specs.declared.scanner.ScanFault.{ScanFault}
 use Rattle.pn_scan.specs.declared.scanner.ScanFault.TheVariants.{Memory, Broken, TooLong}
 use Rattle.pn_scan.specs.declared.scanner.Scanner.{Scanner}
 
--- the bytes so far, as many as this and no more than the limit, lead to the state of this mode in this tree
-pub record IsReading (tree : OpenTree) (mode : Mode) (opened : Open) (count : ℕ) (b : List ℕ) : Type 0 where
+-- the bytes so far, as many as this and no more than the limit, lead to the state of this context in this tree
+pub record IsReading (tree : OpenTree) (context : Context) (opened : Open) (count : ℕ) (b : List ℕ) : Type 0 where
   pub belongs : Belongs tree
-  pub fits : Fits (place_of tree) mode
-  pub fed : Fed (state_of (place_of tree) mode) (open_bytes opened) b
+  pub fits : Admits (nesting_of tree) context
+  pub fed : Fed (state_of (nesting_of tree) context) (open_bytes opened) b
   pub counted : count ≡ length b
   pub within : length b ≤ BYTES
 
@@ -35,15 +35,15 @@ pub record IsTooLong (b : List ℕ) : Type 0 where
   pub front : IsFront (take BYTES b)
 
 -- what the bytes so far are, by the fault that was found. Of want of memory nothing is said
-abbrev pub HasReadTo : Option ScanFault → OpenTree → Mode → Open → ℕ → List ℕ → Type 0
-HasReadTo None tree mode opened count b = IsReading tree mode opened count b
-HasReadTo (Some (Memory e)) tree mode opened count b = Unit {0}
-HasReadTo (Some (Broken k)) tree mode opened count b = IsBroken b k
-HasReadTo (Some TooLong) tree mode opened count b = IsTooLong b
+abbrev pub HasReadTo : Option ScanFault → OpenTree → Context → Open → ℕ → List ℕ → Type 0
+HasReadTo None tree context opened count b = IsReading tree context opened count b
+HasReadTo (Some (Memory e)) tree context opened count b = Unit {0}
+HasReadTo (Some (Broken k)) tree context opened count b = IsBroken b k
+HasReadTo (Some TooLong) tree context opened count b = IsTooLong b
 
 -- the scanner was fed these bytes, in any pieces
 abbrev pub HasRead : Scanner → List ℕ → Type 0
-HasRead s b = HasReadTo s.fault s.tree s.mode s.opened s.count b
+HasRead s b = HasReadTo s.fault s.tree s.context s.opened s.count b
 
 -- the fault that the scanner found
 abbrev pub fault_of : Scanner → Option ScanFault
@@ -66,7 +66,7 @@ pub record IsOnlyFront (b : List ℕ) : Type 0 where
   pub front : IsFront b
   pub none : (t : Element) → IsDocument t b → ⊥
 
--- whether a document ends at this place in this mode
-abbrev pub EndsAt : Bool → Place → Mode → Open → Type 0
-EndsAt true p mode opened = (state_of p mode ≡ at_end (inner_of p)) × (open_bytes opened ≡ [])
-EndsAt false p mode opened = (t : Element) → state_of p mode ≡ at_end t → open_bytes opened ≡ [] → ⊥
+-- whether a document ends in this nesting and context
+abbrev pub EndsAt : Bool → Nesting → Context → Open → Type 0
+EndsAt true p context opened = (state_of p context ≡ at_end (inner_of p)) × (open_bytes opened ≡ [])
+EndsAt false p context opened = (t : Element) → state_of p context ≡ at_end t → open_bytes opened ≡ [] → ⊥

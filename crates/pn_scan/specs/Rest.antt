@@ -10,10 +10,10 @@ use Rattle.pn_markup.specs.Bytes.{is_quote, MaybeSpace, Space, Name, lacks, line
 use Rattle.pn_markup.specs.Misc.{Comment, PI, Misc, is_xml, is_instruction}
 use Rattle.pn_markup.specs.References.{Entity, entity_name, entity_text, is_digit, number_behind, Reference}
 use Rattle.pn_markup.specs.Tags.{is_value_byte, ValueText, AttValue, Eq, Attribute, named, Tag, ETag}
-use Rattle.pn_markup.specs.Content.{is_run_byte, CDSect, Items, Spells}
+use Rattle.pn_markup.specs.Content.{is_run_byte, CDSect, ContentPieces, Spells}
 use Rattle.pn_markup.specs.Declaration.{Maybe, XMLDecl, is_version, is_encoding, is_standalone}
 use Rattle.pn_markup.specs.Document.{ByteOrderMark}
-use Rattle.pn_scan.specs.State.{Place, Holder, Part, Stage, Brackets, State, before, within, behind, of_content, of_value, version, encoding, standalone, all_due, from_encoding, from_standalone, none_due, no_bracket, one_bracket, two_brackets, at_start, outside, at_end, in_run, at_markup, at_bang, in_comment, in_target, in_instruction, in_section, in_name, in_tag, in_attribute, before_equals, behind_equals, in_value, at_reference, in_entity, at_number, in_number, due, in_end, in_declaration, before_part_equals, behind_part_equals, in_part, room_at}
+use Rattle.pn_scan.specs.State.{Nesting, Holder, Part, Stage, Brackets, State, before, within, behind, of_content, of_value, version, encoding, standalone, all_due, from_encoding, from_standalone, none_due, no_bracket, one_bracket, two_brackets, at_start, outside, at_end, in_run, at_markup, at_bang, in_comment, in_target, in_instruction, in_section, in_name, in_tag, in_attribute, before_equals, behind_equals, in_value, at_reference, in_entity, at_number, in_number, due, in_end, in_declaration, before_part_equals, behind_part_equals, in_part, room_at}
 
 -- before the root, without a declaration
 pub record Body (N : ℕ) (t : Element) (c : List ℕ) : Type 0 where
@@ -38,15 +38,15 @@ Whole N t c = (mark : List ℕ) × (rest : List ℕ) × Maybe ByteOrderMark mark
 -- in the content of an element p, no run being under way, K after it
 pub record Marked (K : Element → List ℕ → Type 0) (N levels : ℕ) (p : Element) (c : List ℕ) : Type 0 where
   pub complete : Element
-  pub items : List ℕ
+  pub pieces : List ℕ
   pub close : List ℕ
   pub rest : List ℕ
   pub at : ℕ
-  pub are_items : Items (Spells levels) at p complete items
+  pub are_pieces : ContentPieces (Spells levels) at p complete pieces
   pub is_close : ETag p.name close
   pub goes_on : K complete rest
   pub offset : at + length c ≡ N
-  pub whole : c ≡ items ++ (close ++ rest)
+  pub whole : c ≡ pieces ++ (close ++ rest)
 
 abbrev pub brackets : Brackets → List ℕ
 brackets no_bracket = []
@@ -63,20 +63,20 @@ pub record Running (K : Element → List ℕ → Type 0) (N levels : ℕ) (p : E
   pub whole : c ≡ run ++ rest
 
 -- behind an element inside others
-abbrev pub Behind : ℕ → Element → ℕ → List Element → Element → List ℕ → Type 0
-Behind N t levels [] e c = (t ≡ e) × Misc c
-Behind N t levels (p ∷ ps) e c = Running (Behind N t (suc levels) ps) N levels (with_kid (children.Element e) p) [] no_bracket false c
+abbrev pub BehindElement : ℕ → Element → ℕ → List Element → Element → List ℕ → Type 0
+BehindElement N t levels [] e c = (t ≡ e) × Misc c
+BehindElement N t levels (p ∷ ps) e c = Running (BehindElement N t (suc levels) ps) N levels (with_kid (children.Element e) p) [] no_bracket false c
 
--- behind an item
-abbrev pub Resumed : ℕ → Element → Place → List ℕ → Type 0
+-- behind a piece of content
+abbrev pub Resumed : ℕ → Element → Nesting → List ℕ → Type 0
 Resumed N t before c = Body N t c
-Resumed N t (within levels e outer) c = Running (Behind N t (suc levels) outer) N levels e [] no_bracket false c
+Resumed N t (within levels e outer) c = Running (BehindElement N t (suc levels) outer) N levels e [] no_bracket false c
 Resumed N t (behind root) c = (t ≡ root) × Misc c
 
 -- the end of a tag
 pub data TagEnd (N : ℕ) (t : Element) (levels : ℕ) (outer : List Element) (e : Element) (c : List ℕ) : Type 0 where
   opens : (rest : List ℕ) → Resumed N t (within levels e outer) rest → c ≡ 62 ∷ rest → TagEnd N t levels outer e c
-  closes_empty : (rest : List ℕ) → Behind N t (suc levels) outer e rest → c ≡ 47 ∷ 62 ∷ rest → TagEnd N t levels outer e c
+  closes_empty : (rest : List ℕ) → BehindElement N t (suc levels) outer e rest → c ≡ 47 ∷ 62 ∷ rest → TagEnd N t levels outer e c
 
 -- white space is there, unless some was read
 abbrev pub SpaceOr : Bool → List ℕ → Type 0
@@ -90,18 +90,18 @@ pub data TagMore (N : ℕ) (t : Element) (levels : ℕ) (outer : List Element) :
       → attr_value name e.attrs ≡ None → TagMore N t levels outer false (with_attr name value e) rest → c ≡ space ++ (bytes ++ rest)
       → TagMore N t levels outer spaced e c
 
--- what begins with `<` or `&` at a place
-pub data Begun (N : ℕ) (t : Element) (at : ℕ) : Place → List ℕ → Type 0 where
-  a_comment : (place : Place) (c bytes rest : List ℕ) → Comment bytes → Resumed N t place rest → c ≡ bytes ++ rest → Begun N t at place c
-  an_instruction : (place : Place) (c bytes rest : List ℕ) → PI bytes → Resumed N t place rest → c ≡ bytes ++ rest → Begun N t at place c
-  a_section : (place : Place) (c : List ℕ) (levels : ℕ) (e : Element) (outer : List Element) (raw bytes rest : List ℕ) → place ≡ within levels e outer
-      → CDSect raw bytes → Resumed N t (within levels (with_text (line_ends raw) e) outer) rest → c ≡ bytes ++ rest → Begun N t at place c
-  a_reference : (place : Place) (c : List ℕ) (levels : ℕ) (e : Element) (outer : List Element) (text bytes rest : List ℕ) → place ≡ within levels e outer
-      → Reference text bytes → Resumed N t (within levels (with_text text e) outer) rest → c ≡ bytes ++ rest → Begun N t at place c
-  an_end : (place : Place) (c : List ℕ) (levels : ℕ) (e : Element) (outer : List Element) (bytes rest : List ℕ) → place ≡ within levels e outer
-      → ETag e.name bytes → Behind N t (suc levels) outer e rest → c ≡ bytes ++ rest → Begun N t at place c
-  a_tag : (place : Place) (c : List ℕ) (levels : ℕ) (outer : List Element) (e : Element) (bytes rest : List ℕ) → room_at place ≡ Some (levels, outer)
-      → Tag at e bytes → TagEnd N t levels outer e rest → c ≡ bytes ++ rest → Begun N t at place c
+-- what begins with `<` or `&` in a nesting
+pub data Begun (N : ℕ) (t : Element) (at : ℕ) : Nesting → List ℕ → Type 0 where
+  a_comment : (nesting : Nesting) (c bytes rest : List ℕ) → Comment bytes → Resumed N t nesting rest → c ≡ bytes ++ rest → Begun N t at nesting c
+  an_instruction : (nesting : Nesting) (c bytes rest : List ℕ) → PI bytes → Resumed N t nesting rest → c ≡ bytes ++ rest → Begun N t at nesting c
+  a_section : (nesting : Nesting) (c : List ℕ) (levels : ℕ) (e : Element) (outer : List Element) (raw bytes rest : List ℕ) → nesting ≡ within levels e outer
+      → CDSect raw bytes → Resumed N t (within levels (with_text (line_ends raw) e) outer) rest → c ≡ bytes ++ rest → Begun N t at nesting c
+  a_reference : (nesting : Nesting) (c : List ℕ) (levels : ℕ) (e : Element) (outer : List Element) (text bytes rest : List ℕ) → nesting ≡ within levels e outer
+      → Reference text bytes → Resumed N t (within levels (with_text text e) outer) rest → c ≡ bytes ++ rest → Begun N t at nesting c
+  an_end : (nesting : Nesting) (c : List ℕ) (levels : ℕ) (e : Element) (outer : List Element) (bytes rest : List ℕ) → nesting ≡ within levels e outer
+      → ETag e.name bytes → BehindElement N t (suc levels) outer e rest → c ≡ bytes ++ rest → Begun N t at nesting c
+  a_tag : (nesting : Nesting) (c : List ℕ) (levels : ℕ) (outer : List Element) (e : Element) (bytes rest : List ℕ) → room_at nesting ≡ Some (levels, outer)
+      → Tag at e bytes → TagEnd N t levels outer e rest → c ≡ bytes ++ rest → Begun N t at nesting c
 
 -- the text of a comment
 abbrev pub is_comment : List ℕ → Bool
@@ -220,25 +220,25 @@ pub record PartValue (p : Part) (quote : ℕ) (value : List ℕ) (K : List ℕ �
   pub whole : c ≡ more ++ (quote ∷ rest)
 
 -- in the name of a processing instruction, or in what may be a declaration
-pub data TargetMore (N : ℕ) (t : Element) (first : Bool) (place : Place) (name : List ℕ) (c : List ℕ) : Type 0 where
-  names_instruction : (more text rest : List ℕ) → Name (name ++ more) → is_xml (name ++ more) ≡ false → is_instruction text ≡ true → Resumed N t place rest
-      → c ≡ more ++ (text ++ (codes "?>" ++ rest)) → TargetMore N t first place name c
-  names_declaration : (more rest : List ℕ) → first ≡ true → place ≡ before → name ++ more ≡ codes "xml" → DeclarationMore (Body N t) all_due false rest
-      → c ≡ more ++ rest → TargetMore N t first place name c
+pub data TargetMore (N : ℕ) (t : Element) (first : Bool) (nesting : Nesting) (name : List ℕ) (c : List ℕ) : Type 0 where
+  names_instruction : (more text rest : List ℕ) → Name (name ++ more) → is_xml (name ++ more) ≡ false → is_instruction text ≡ true → Resumed N t nesting rest
+      → c ≡ more ++ (text ++ (codes "?>" ++ rest)) → TargetMore N t first nesting name c
+  names_declaration : (more rest : List ℕ) → first ≡ true → nesting ≡ before → name ++ more ≡ codes "xml" → DeclarationMore (Body N t) all_due false rest
+      → c ≡ more ++ rest → TargetMore N t first nesting name c
 
 -- behind `<!`
-pub data BangMore (N : ℕ) (t : Element) (place : Place) (c : List ℕ) : Type 0 where
-  bang_comment : (rest : List ℕ) → Until (codes "--") is_comment (λ text after. (more : List ℕ) × Resumed N t place more × (after ≡ 62 ∷ more)) rest
-      → c ≡ codes "--" ++ rest → BangMore N t place c
-  bang_section : (levels : ℕ) (e : Element) (outer : List Element) (rest : List ℕ) → place ≡ within levels e outer
+pub data BangMore (N : ℕ) (t : Element) (nesting : Nesting) (c : List ℕ) : Type 0 where
+  bang_comment : (rest : List ℕ) → Until (codes "--") is_comment (λ text after. (more : List ℕ) × Resumed N t nesting more × (after ≡ 62 ∷ more)) rest
+      → c ≡ codes "--" ++ rest → BangMore N t nesting c
+  bang_section : (levels : ℕ) (e : Element) (outer : List Element) (rest : List ℕ) → nesting ≡ within levels e outer
       → Until (codes "]]>") (lacks (codes "]]>")) (λ raw after. Resumed N t (within levels (with_text (line_ends raw) e) outer) after) rest
-      → c ≡ codes "[CDATA[" ++ rest → BangMore N t place c
+      → c ≡ codes "[CDATA[" ++ rest → BangMore N t nesting c
 
 -- behind `<` at an offset
-pub data MarkupMore (N : ℕ) (t : Element) (first : Bool) (at : ℕ) (place : Place) (c : List ℕ) : Type 0 where
-  begun : Begun N t at place (60 ∷ c) → MarkupMore N t first at place c
-  may_declare : (rest : List ℕ) → first ≡ true → place ≡ before → DeclarationMore (Body N t) all_due false rest → c ≡ codes "?xml" ++ rest
-      → MarkupMore N t first at place c
+pub data MarkupMore (N : ℕ) (t : Element) (first : Bool) (at : ℕ) (nesting : Nesting) (c : List ℕ) : Type 0 where
+  begun : Begun N t at nesting (60 ∷ c) → MarkupMore N t first at nesting c
+  may_declare : (rest : List ℕ) → first ≡ true → nesting ≡ before → DeclarationMore (Body N t) all_due false rest → c ≡ codes "?xml" ++ rest
+      → MarkupMore N t first at nesting c
 
 -- in the name of a tag
 pub record NameMore (N : ℕ) (t : Element) (levels : ℕ) (outer : List Element) (at : ℕ) (name : List ℕ) (c : List ℕ) : Type 0 where
@@ -298,13 +298,13 @@ Rest at_start N t c = Whole N t c
 Rest (outside true) N t c = Begin N t c
 Rest (outside false) N t c = Body N t c
 Rest (at_end root) N t c = (t ≡ root) × Misc c
-Rest (in_run levels e outer text b cr) N t c = Running (Behind N t (suc levels) outer) N levels e text b cr c
-Rest (at_markup first place at) N t c = (at + suc (length c) ≡ N) × MarkupMore N t first at place c
-Rest (at_bang place) N t c = BangMore N t place c
-Rest (in_comment place dash) N t c =
-    Until (codes "--") is_comment (λ text after. (more : List ℕ) × Resumed N t place more × (after ≡ 62 ∷ more)) (dashes dash ++ c)
-Rest (in_target first place name) N t c = TargetMore N t first place name c
-Rest (in_instruction place question) N t c = Until (codes "?>") (lacks (codes "?>")) (λ text after. Resumed N t place after) (questions question ++ c)
+Rest (in_run levels e outer text b cr) N t c = Running (BehindElement N t (suc levels) outer) N levels e text b cr c
+Rest (at_markup first nesting at) N t c = (at + suc (length c) ≡ N) × MarkupMore N t first at nesting c
+Rest (at_bang nesting) N t c = BangMore N t nesting c
+Rest (in_comment nesting dash) N t c =
+    Until (codes "--") is_comment (λ text after. (more : List ℕ) × Resumed N t nesting more × (after ≡ 62 ∷ more)) (dashes dash ++ c)
+Rest (in_target first nesting name) N t c = TargetMore N t first nesting name c
+Rest (in_instruction nesting question) N t c = Until (codes "?>") (lacks (codes "?>")) (λ text after. Resumed N t nesting after) (questions question ++ c)
 Rest (in_section levels e outer text b cr) N t c =
     Until (codes "]]>") (lacks (codes "]]>")) (λ raw after. Resumed N t (within levels (with_text (text ++ line_ends_behind cr raw) e) outer) after) (brackets b ++ c)
 Rest (in_name levels outer at name) N t c = NameMore N t levels outer at name c
@@ -319,7 +319,7 @@ Rest (at_number holder) N t c = NumberMore 10 0 false (Held N t holder) c ⊎ ((
 Rest (in_number holder base n any) N t c = NumberMore base n any (Held N t holder) c
 Rest (due left s) N t c = (rest : List ℕ) × Rest s N t rest × (c ≡ left ++ rest)
 Rest (in_end levels e outer) N t c =
-    (space : List ℕ) × (rest : List ℕ) × MaybeSpace space × Behind N t (suc levels) outer e rest × (c ≡ space ++ (62 ∷ rest))
+    (space : List ℕ) × (rest : List ℕ) × MaybeSpace space × BehindElement N t (suc levels) outer e rest × (c ≡ space ++ (62 ∷ rest))
 Rest (in_declaration stage spaced) N t c = DeclarationMore (Body N t) stage spaced c
 Rest (before_part_equals p) N t c = PartEquals p (Body N t) c
 Rest (behind_part_equals p) N t c = PartQuote p (Body N t) c

@@ -4,12 +4,12 @@ use Rattle.pn_tree.specs.Building.{with_kid, with_text}
 use Rattle.pn_tree.specs.declared.element.Element.{Element}
 use Rattle.pn_tree.specs.declared.element.Child.TheVariants as children
 
--- where an item stands: before the root, within an open element, or behind the root. Of the open elements the innermost is apart, each as far
+-- where a piece of content stands: before the root, within an open element, or behind the root. Of the open elements the innermost is apart, each as far
 -- as it was read, and so many levels are left within the innermost
-pub data Place : Type 0 where
-  before : Place
-  within : ℕ → Element → List Element → Place
-  behind : Element → Place
+pub data Nesting : Type 0 where
+  before : Nesting
+  within : ℕ → Element → List Element → Nesting
+  behind : Element → Nesting
 
 -- what a reference stands in: content, or the value of an attribute of this name, in these quotes, as far as it was read
 pub data Holder : Type 0 where
@@ -38,15 +38,15 @@ pub data State : Type 0 where
   -- in a run: what it stands for so far, the brackets that it ends in, and whether it ends in CR
   in_run : ℕ → Element → List Element → List ℕ → Brackets → Bool → State
   -- behind a `<` at this offset; and whether it may begin a declaration
-  at_markup : Bool → Place → ℕ → State
+  at_markup : Bool → Nesting → ℕ → State
   -- behind `<!`
-  at_bang : Place → State
+  at_bang : Nesting → State
   -- in a comment, and whether behind a `-`
-  in_comment : Place → Bool → State
+  in_comment : Nesting → Bool → State
   -- in the name of a processing instruction, or in what may be a declaration
-  in_target : Bool → Place → List ℕ → State
+  in_target : Bool → Nesting → List ℕ → State
   -- in the text of a processing instruction, and whether behind a `?`
-  in_instruction : Place → Bool → State
+  in_instruction : Nesting → Bool → State
   -- in a CDATA section: what it stands for so far, without the brackets that it ends in, and whether that ends in CR
   in_section : ℕ → Element → List Element → List ℕ → Brackets → Bool → State
   -- in the name of a tag, whose `<` has this offset. So many levels are left within the tag's element, which the others are around
@@ -85,19 +85,19 @@ abbrev pub behind_element : ℕ → List Element → Element → State
 behind_element levels [] e = at_end e
 behind_element levels (p ∷ ps) e = in_run levels (with_kid (children.Element e) p) ps [] no_bracket false
 
--- how it goes on behind an item
-abbrev pub behind_item : Place → State
-behind_item before = outside false
-behind_item (within levels e outer) = in_run levels e outer [] no_bracket false
-behind_item (behind root) = at_end root
+-- how it goes on behind a piece of content
+abbrev pub behind_piece : Nesting → State
+behind_piece before = outside false
+behind_piece (within levels e outer) = in_run levels e outer [] no_bracket false
+behind_piece (behind root) = at_end root
 
 -- how it goes on behind a reference that stands for this text
 abbrev pub behind_reference : Holder → List ℕ → State
 behind_reference (of_content levels e outer) text = in_run levels (with_text text e) outer [] no_bracket false
 behind_reference (of_value levels outer e name quote value) text = in_value levels outer e name quote (value ++ text) false
 
--- an element may begin at a place: the levels that are left within it, and the elements around it
-abbrev pub room_at : Place → Option (ℕ × List Element)
+-- an element may begin in a nesting: the levels that are left within it, and the elements around it
+abbrev pub room_at : Nesting → Option (ℕ × List Element)
 room_at before = Some (255, [])
 room_at (within (suc levels) e outer) = Some (levels, e ∷ outer)
 room_at _ = None

@@ -4,8 +4,8 @@ use Rattle.pn_text.specs.Characters.{is_text}
 use Rattle.pn_tree.specs.Elements.{attr_value}
 use Rattle.pn_markup.specs.Bytes.{is_quote, Name}
 use Rattle.pn_tree.specs.declared.element.Element.{Element}
-use Rattle.pn_scan.specs.State.{Place, Holder, Brackets, State, before, within, behind, of_content, of_value, no_bracket, one_bracket, two_brackets, at_start, outside, at_end, in_run, at_markup, at_bang, in_comment, in_target, in_instruction, in_section, in_name, in_tag, in_attribute, before_equals, behind_equals, in_value, at_reference, in_entity, at_number, in_number, due, in_end, in_declaration, before_part_equals, behind_part_equals, in_part}
-use Rattle.pn_scan.specs.Step.{entity_of, is_entity_front, is_part_front}
+use Rattle.pn_scan.specs.State.{Nesting, Holder, Brackets, State, before, within, behind, of_content, of_value, no_bracket, one_bracket, two_brackets, at_start, outside, at_end, in_run, at_markup, at_bang, in_comment, in_target, in_instruction, in_section, in_name, in_tag, in_attribute, before_equals, behind_equals, in_value, at_reference, in_entity, at_number, in_number, due, in_end, in_declaration, before_part_equals, behind_part_equals, in_part}
+use Rattle.pn_scan.specs.NextState.{entity_of, is_entity_front, is_part_front}
 use Rattle.pn_scan.specs.Characters.{Cut}
 
 -- the names of elements are texts
@@ -13,10 +13,10 @@ abbrev pub AreTexts : List Element → Type 0
 AreTexts [] = Unit {0}
 AreTexts (e ∷ es) = (is_text e.name ≡ true) × AreTexts es
 
-abbrev pub OfPlace : Place → Type 0
-OfPlace before = Unit {0}
-OfPlace (within levels e outer) = AreTexts (e ∷ outer)
-OfPlace (behind root) = Unit {0}
+abbrev pub OfNesting : Nesting → Type 0
+OfNesting before = Unit {0}
+OfNesting (within levels e outer) = AreTexts (e ∷ outer)
+OfNesting (behind root) = Unit {0}
 
 -- an attribute of which the name was read
 pub record OfName (e : Element) (name : List ℕ) : Type 0 where
@@ -54,11 +54,11 @@ IsViable at_start at p = p ≡ []
 IsViable (outside first) at p = p ≡ []
 IsViable (at_end root) at p = p ≡ []
 IsViable (in_run levels e outer text b cr) at p = AreTexts (e ∷ outer) × Cut text p
-IsViable (at_markup first place begin) at p = OfPlace place × (p ≡ []) × (at ≡ suc begin)
-IsViable (at_bang place) at p = OfPlace place × (p ≡ [])
-IsViable (in_comment place dash) at p = OfPlace place
-IsViable (in_target first place name) at p = OfPlace place × MaybeName name p
-IsViable (in_instruction place question) at p = OfPlace place
+IsViable (at_markup first nesting begin) at p = OfNesting nesting × (p ≡ []) × (at ≡ suc begin)
+IsViable (at_bang nesting) at p = OfNesting nesting × (p ≡ [])
+IsViable (in_comment nesting dash) at p = OfNesting nesting
+IsViable (in_target first nesting name) at p = OfNesting nesting × MaybeName name p
+IsViable (in_instruction nesting question) at p = OfNesting nesting
 IsViable (in_section levels e outer text b cr) at p = AreTexts (e ∷ outer) × Cut text p × AreWhole b p
 IsViable (in_name levels outer begin name) at p = AreTexts outer × Name name × Cut name p
 IsViable (in_tag levels outer e spaced) at p = AreTexts (e ∷ outer) × (p ≡ [])

@@ -4,40 +4,40 @@ ghost use Rattle.std.specs.Prelude.{◌≡◌, ◌<◌, ◌++◌, true, None, On
 ghost use Rattle.std.specs.Option.{option_map};
 ghost use Rattle.pn_text.specs.Characters.{is_name, is_text};
 ghost use Rattle.pn_tree.specs.Elements.{attr_value};
-ghost use Rattle.pn_scan.specs.Step.{step, step_equals, step_quote, step_value, space_text};
-ghost use Rattle.pn_scan.specs.Places.{place_of, levels_of, inner_of, outer_of, Belongs};
-ghost use Rattle.pn_scan.specs.State.{Place, in_attribute};
-ghost use Rattle.pn_scan.specs.Modes.{state_of, IsTag, Fits};
+ghost use Rattle.pn_scan.specs.NextState.{next_state, next_before_equals, next_behind_equals, next_in_value, space_text};
+ghost use Rattle.pn_scan.specs.Nestings.{nesting_of, levels_of, inner_of, outer_of, Belongs};
+ghost use Rattle.pn_scan.specs.State.{Nesting, in_attribute};
+ghost use Rattle.pn_scan.specs.Contexts.{state_of, IsTag, Admits};
 
 use crate::bytes::{continues_name, is_quote_byte, is_space_byte};
-use crate::mode::{Holder, Mode};
+use crate::context::{Context, Holder};
 use crate::open_tree::OpenTree;
 use std::alloc::{AllocError, Global};
 
 /// A byte behind the name of an attribute.
-pub(crate) fn equals(name: Vec<u8>, byte: u8) -> Option<Mode>
-    ensures step { (p : Place) → option_map (state_of p) result ≡ step_equals (levels_of p) (outer_of p) (inner_of p) name.items byte }
-    ensures fits { (p : Place) → IsTag p → IfSome result (Fits p) }
+pub(crate) fn equals(name: Vec<u8>, byte: u8) -> Option<Context>
+    ensures state { (p : Nesting) → option_map (state_of p) result ≡ next_before_equals (levels_of p) (outer_of p) (inner_of p) name.items byte }
+    ensures fits { (p : Nesting) → IsTag p → IfSome result (Admits p) }
 {
     if is_space_byte(byte) {
-        return Some(Mode::BeforeEquals { name });
+        return Some(Context::BeforeEquals { name });
     }
     if byte == b'=' {
-        return Some(Mode::BehindEquals { name });
+        return Some(Context::BehindEquals { name });
     }
     None
 }
 
 /// A byte behind the `=` of an attribute.
-pub(crate) fn quote(alloc: Global, name: Vec<u8>, byte: u8) -> Option<Mode>
-    ensures step { (p : Place) → option_map (state_of p) result ≡ step_quote (levels_of p) (outer_of p) (inner_of p) name.items byte }
-    ensures fits { (p : Place) → IsTag p → IfSome result (Fits p) }
+pub(crate) fn quote(alloc: Global, name: Vec<u8>, byte: u8) -> Option<Context>
+    ensures state { (p : Nesting) → option_map (state_of p) result ≡ next_behind_equals (levels_of p) (outer_of p) (inner_of p) name.items byte }
+    ensures fits { (p : Nesting) → IsTag p → IfSome result (Admits p) }
 {
     if is_space_byte(byte) {
-        return Some(Mode::BehindEquals { name });
+        return Some(Context::BehindEquals { name });
     }
     if is_quote_byte(byte) {
-        return Some(Mode::Value {
+        return Some(Context::Value {
             name,
             quote: byte,
             value: Vec::new(alloc),
@@ -53,17 +53,17 @@ pub(crate) fn attribute(
     mut name: Vec<u8>,
     at: u64,
     byte: u8,
-) -> Result<Option<Mode>, AllocError>
+) -> Result<Option<Context>, AllocError>
     requires belongs { Belongs tree.now }
-    requires is_tag { IsTag (place_of tree.now) }
+    requires is_tag { IsTag (nesting_of tree.now) }
     requires whole { byte < 128 → is_text name.items ≡ true }
-    ensures step { IfOk result (λ m. option_map (state_of (place_of tree.now)) m
-        ≡ step (in_attribute (levels_of (place_of tree.now)) (outer_of (place_of tree.now)) (inner_of (place_of tree.now)) name.items) at byte) }
-    ensures fits { IfOk result (λ m. IfSome m (Fits (place_of tree.now))) }
+    ensures state { IfOk result (λ m. option_map (state_of (nesting_of tree.now)) m
+        ≡ next_state (in_attribute (levels_of (nesting_of tree.now)) (outer_of (nesting_of tree.now)) (inner_of (nesting_of tree.now)) name.items) at byte) }
+    ensures fits { IfOk result (λ m. IfSome m (Admits (nesting_of tree.now))) }
 {
     if continues_name(byte) {
         name.push(byte)?;
-        return Ok(Some(Mode::Attribute { name }));
+        return Ok(Some(Context::Attribute { name }));
     }
     if tree.has_attr(&name) {
         return Ok(None);
@@ -90,31 +90,31 @@ pub(crate) fn value(
     mut value: Vec<u8>,
     cr: bool,
     byte: u8,
-) -> Result<Option<Mode>, AllocError>
+) -> Result<Option<Context>, AllocError>
     requires belongs { Belongs tree.old }
-    requires is_tag { IsTag (place_of tree.old) }
+    requires is_tag { IsTag (nesting_of tree.old) }
     requires name { is_name name.items ≡ true }
-    requires is_new { attr_value name.items (inner_of (place_of tree.old)).attrs ≡ None }
+    requires is_new { attr_value name.items (inner_of (nesting_of tree.old)).attrs ≡ None }
     requires whole { byte < 128 → is_text value.items ≡ true }
     requires quoted { quote < 128 }
-    ensures step { IfOk result (λ m. option_map (state_of (place_of tree.new)) m
-        ≡ step_value (levels_of (place_of tree.old)) (outer_of (place_of tree.old)) (inner_of (place_of tree.old)) name.items quote value.items cr byte) }
-    ensures fits { IfOk result (λ m. IfSome m (Fits (place_of tree.new))) }
+    ensures state { IfOk result (λ m. option_map (state_of (nesting_of tree.new)) m
+        ≡ next_in_value (levels_of (nesting_of tree.old)) (outer_of (nesting_of tree.old)) (inner_of (nesting_of tree.old)) name.items quote value.items cr byte) }
+    ensures fits { IfOk result (λ m. IfSome m (Admits (nesting_of tree.new))) }
     ensures belongs { OnOk result (Belongs tree.new) }
 {
     if byte == quote {
         tree.attr(&name, &value)?;
-        return Ok(Some(Mode::Tag { spaced: false }));
+        return Ok(Some(Context::Tag { spaced: false }));
     }
     if byte == b'<' {
         return Ok(None);
     }
     if byte == b'&' {
         let holder = Holder::Value { name, quote, value };
-        return Ok(Some(Mode::Reference { holder }));
+        return Ok(Some(Context::Reference { holder }));
     }
     put_value_byte(&mut value, cr, byte)?;
-    Ok(Some(Mode::Value {
+    Ok(Some(Context::Value {
         name,
         quote,
         value,

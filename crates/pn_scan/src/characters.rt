@@ -2,7 +2,7 @@
 
 ghost use Rattle.std.specs.Prelude.{◌≡◌, ◌∷◌, []};
 ghost use Rattle.std.specs.Option.{option_map};
-ghost use Rattle.pn_scan.specs.Characters.{is_further, begin_three, begin_four, is_last_pair, character_behind, character_step};
+ghost use Rattle.pn_scan.specs.Characters.{is_further, begin_three, begin_four, is_last_pair, character_behind, open_behind};
 ghost use Rattle.pn_scan.specs.Open.{open_bytes};
 
 /// The bytes of a character that is not whole yet, if any.
@@ -97,7 +97,7 @@ fn fourth(a: u8, b: u8, c: u8, d: u8) -> Option<Open>
 impl Open {
     /// What is open behind one more byte, or `None` where no document goes on so.
     pub(crate) fn next(self, byte: u8) -> Option<Open>
-        ensures { option_map open_bytes result ≡ character_step (open_bytes self) byte }
+        ensures { option_map open_bytes result ≡ open_behind (open_bytes self) byte }
     {
         match self {
             Open::Nothing => first(byte),

@@ -5,15 +5,15 @@ ghost use Rattle.std.specs.Char.{to_ascii_lowercase};
 ghost use Rattle.std.specs.List.{list_all};
 ghost use Rattle.std.specs.Str.{bytes_eq};
 ghost use Rattle.std.specs.Option.{option_map};
-ghost use Rattle.pn_scan.specs.State.{Place, before, before_part_equals, behind_part_equals};
+ghost use Rattle.pn_scan.specs.State.{Nesting, before, before_part_equals, behind_part_equals};
 ghost use Rattle.pn_text.specs.Characters.{is_within};
 ghost use Rattle.pn_markup.specs.Declaration.{is_version};
 ghost use Rattle.pn_scan.specs.Rest.{may_come, may_end, stage_behind, is_part_value};
-ghost use Rattle.pn_scan.specs.Step.{step, step_declaration, step_part, part_begins, is_part_front, is_version_front};
-ghost use Rattle.pn_scan.specs.Modes.{state_of, stage_of, part_of, Fits};
+ghost use Rattle.pn_scan.specs.NextState.{next_state, next_in_declaration, next_in_part, part_begins, is_part_front, is_version_front};
+ghost use Rattle.pn_scan.specs.Contexts.{state_of, stage_of, part_of, Admits};
 
 use crate::bytes::{is_quote_byte, is_space_byte};
-use crate::mode::{Mode, Part, Stage, Then};
+use crate::context::{Context, Part, Stage, Then};
 use crate::reference::is_front;
 use std::alloc::{AllocError, Global};
 
@@ -56,24 +56,24 @@ fn closes(stage: Stage, byte: u8) -> bool
 }
 
 /// The first byte of the word of a part.
-fn begin_part(stage: Stage, byte: u8) -> Option<Mode>
-    ensures step { (p : Place) → option_map (state_of p) result ≡ part_begins (stage_of stage) byte }
-    ensures fits { (p : Place) → p ≡ before → IfSome result (Fits p) }
+fn begin_part(stage: Stage, byte: u8) -> Option<Context>
+    ensures state { (p : Nesting) → option_map (state_of p) result ≡ part_begins (stage_of stage) byte }
+    ensures fits { (p : Nesting) → p ≡ before → IfSome result (Admits p) }
 {
     if byte == b'v' && may_begin(stage, Part::Version) {
-        return Some(Mode::Due {
+        return Some(Context::Due {
             left: b"ersion",
             then: Then::BeforeEquals(Part::Version),
         });
     }
     if byte == b'e' && may_begin(stage, Part::Encoding) {
-        return Some(Mode::Due {
+        return Some(Context::Due {
             left: b"ncoding",
             then: Then::BeforeEquals(Part::Encoding),
         });
     }
     if byte == b's' && may_begin(stage, Part::Standalone) {
-        return Some(Mode::Due {
+        return Some(Context::Due {
             left: b"tandalone",
             then: Then::BeforeEquals(Part::Standalone),
         });
@@ -82,20 +82,20 @@ fn begin_part(stage: Stage, byte: u8) -> Option<Mode>
 }
 
 /// A byte of the declaration behind a part of it, or behind its beginning.
-pub(crate) fn declaration(stage: Stage, spaced: bool, byte: u8) -> Option<Mode>
-    ensures step { (p : Place) → p ≡ before → option_map (state_of p) result ≡ step_declaration (stage_of stage) spaced byte }
-    ensures fits { (p : Place) → p ≡ before → IfSome result (Fits p) }
+pub(crate) fn declaration(stage: Stage, spaced: bool, byte: u8) -> Option<Context>
+    ensures state { (p : Nesting) → p ≡ before → option_map (state_of p) result ≡ next_in_declaration (stage_of stage) spaced byte }
+    ensures fits { (p : Nesting) → p ≡ before → IfSome result (Admits p) }
 {
     if is_space_byte(byte) {
-        return Some(Mode::Declaration {
+        return Some(Context::Declaration {
             stage,
             spaced: true,
         });
     }
     if closes(stage, byte) {
-        return Some(Mode::Due {
+        return Some(Context::Due {
             left: b">",
-            then: Then::Item,
+            then: Then::Between,
         });
     }
     if spaced {
@@ -105,29 +105,29 @@ pub(crate) fn declaration(stage: Stage, spaced: bool, byte: u8) -> Option<Mode>
 }
 
 /// A byte behind the word of a part.
-pub(crate) fn part_equals(part: Part, at: u64, byte: u8) -> Option<Mode>
-    ensures step { (p : Place) → option_map (state_of p) result ≡ step (before_part_equals (part_of part)) at byte }
-    ensures fits { (p : Place) → p ≡ before → IfSome result (Fits p) }
+pub(crate) fn part_equals(part: Part, at: u64, byte: u8) -> Option<Context>
+    ensures state { (p : Nesting) → option_map (state_of p) result ≡ next_state (before_part_equals (part_of part)) at byte }
+    ensures fits { (p : Nesting) → p ≡ before → IfSome result (Admits p) }
 {
     if is_space_byte(byte) {
-        return Some(Mode::BeforePartEquals { part });
+        return Some(Context::BeforePartEquals { part });
     }
     if byte == b'=' {
-        return Some(Mode::BehindPartEquals { part });
+        return Some(Context::BehindPartEquals { part });
     }
     None
 }
 
 /// A byte behind the `=` of a part.
-pub(crate) fn part_quote(alloc: Global, part: Part, at: u64, byte: u8) -> Option<Mode>
-    ensures step { (p : Place) → option_map (state_of p) result ≡ step (behind_part_equals (part_of part)) at byte }
-    ensures fits { (p : Place) → p ≡ before → IfSome result (Fits p) }
+pub(crate) fn part_quote(alloc: Global, part: Part, at: u64, byte: u8) -> Option<Context>
+    ensures state { (p : Nesting) → option_map (state_of p) result ≡ next_state (behind_part_equals (part_of part)) at byte }
+    ensures fits { (p : Nesting) → p ≡ before → IfSome result (Admits p) }
 {
     if is_space_byte(byte) {
-        return Some(Mode::BehindPartEquals { part });
+        return Some(Context::BehindPartEquals { part });
     }
     if is_quote_byte(byte) {
-        return Some(Mode::PartValue {
+        return Some(Context::PartValue {
             part,
             quote: byte,
             value: Vec::new(alloc),
@@ -234,14 +234,14 @@ pub(crate) fn part_value(
     quote: u8,
     mut value: Vec<u8>,
     byte: u8,
-) -> Result<Option<Mode>, AllocError>
+) -> Result<Option<Context>, AllocError>
     requires { is_part_front (part_of part) value.items ≡ true }
-    ensures step { IfOk result (λ m. (p : Place) → option_map (state_of p) m ≡ step_part (part_of part) quote value.items byte) }
-    ensures fits { IfOk result (λ m. (p : Place) → p ≡ before → IfSome m (Fits p)) }
+    ensures state { IfOk result (λ m. (p : Nesting) → option_map (state_of p) m ≡ next_in_part (part_of part) quote value.items byte) }
+    ensures fits { IfOk result (λ m. (p : Nesting) → p ≡ before → IfSome m (Admits p)) }
 {
     if byte == quote {
         if is_part_whole(alloc, part, &value)? {
-            return Ok(Some(Mode::Declaration {
+            return Ok(Some(Context::Declaration {
                 stage: next_stage(part),
                 spaced: false,
             }));
@@ -249,7 +249,7 @@ pub(crate) fn part_value(
         return Ok(None);
     }
     if put_part_byte(alloc, part, &mut value, byte)? {
-        return Ok(Some(Mode::PartValue { part, quote, value }));
+        return Ok(Some(Context::PartValue { part, quote, value }));
     }
     Ok(None)
 }

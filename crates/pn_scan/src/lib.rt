@@ -5,18 +5,15 @@ mod advance;
 mod attribute;
 mod bytes;
 mod characters;
+mod context;
 mod declaration;
 pub mod laws;
 mod misc;
-mod mode;
 mod open_tree;
-mod plain;
+mod ordinary;
 mod reference;
 mod run;
 mod scanner;
 mod tag;
 
 pub use scanner::{ScanFault, Scanner};
-
-#[cfg(test)]
-mod tests;

@@ -4,70 +4,70 @@ ghost use Rattle.std.specs.Prelude.{◌≡◌, false, [], Some, IfSome, IfOk};
 ghost use Rattle.std.specs.Option.{option_map};
 ghost use Rattle.pn_text.specs.Characters.{is_name_part};
 ghost use Rattle.pn_markup.specs.Misc.{is_xml};
-ghost use Rattle.pn_scan.specs.State.{Place, at_start};
-ghost use Rattle.pn_scan.specs.Step.{step, step_outside, step_markup, step_bang, step_comment, step_target, step_instruction, step_due};
-ghost use Rattle.pn_scan.specs.Places.{IsWhere, IsRoom};
-ghost use Rattle.pn_scan.specs.Modes.{state_of, then_of, Fits, FitsThen};
+ghost use Rattle.pn_scan.specs.State.{Nesting, at_start};
+ghost use Rattle.pn_scan.specs.NextState.{next_state, next_outside, next_at_markup, next_at_bang, next_in_comment, next_in_target, next_in_instruction, next_due};
+ghost use Rattle.pn_scan.specs.Nestings.{IsWhere, IsRoom};
+ghost use Rattle.pn_scan.specs.Contexts.{state_of, then_of, Admits, AdmitsThen};
 
 use crate::bytes::{begin_name, begins_name, continues_name, is_space_byte};
-use crate::mode::{Brackets, Mode, Stage, Then};
+use crate::context::{Brackets, Context, Stage, Then};
 use crate::open_tree::Where;
 use std::alloc::{AllocError, Global};
 
-/// The mode that follows bytes that were due.
-fn mode_behind(alloc: Global, then: Then) -> Mode
-    ensures step { (p : Place) → state_of p result ≡ then_of p then }
-    ensures fits { (p : Place) → FitsThen p then → Fits p result }
+/// The context that follows bytes that were due.
+fn context_behind(alloc: Global, then: Then) -> Context
+    ensures state { (p : Nesting) → state_of p result ≡ then_of p then }
+    ensures fits { (p : Nesting) → AdmitsThen p then → Admits p result }
 {
     match then {
-        Then::First => Mode::First,
-        Then::Item => Mode::Item,
-        Then::Section => Mode::Section {
+        Then::First => Context::First,
+        Then::Between => Context::Between,
+        Then::Section => Context::Section {
             text: Vec::new(alloc),
             brackets: Brackets::Zero,
             cr: false,
         },
-        Then::Comment => Mode::Comment { dash: false },
-        Then::BeforeEquals(part) => Mode::BeforePartEquals { part },
+        Then::Comment => Context::Comment { dash: false },
+        Then::BeforeEquals(part) => Context::BeforePartEquals { part },
     }
 }
 
 /// A byte where these bytes are due.
-pub(crate) fn due(alloc: Global, left: &'static [u8], then: Then, byte: u8) -> Option<Mode>
-    ensures step { (p : Place) → option_map (state_of p) result ≡ step_due left.now (then_of p then) byte }
-    ensures fits { (p : Place) → FitsThen p then → IfSome result (Fits p) }
+pub(crate) fn due(alloc: Global, left: &'static [u8], then: Then, byte: u8) -> Option<Context>
+    ensures state { (p : Nesting) → option_map (state_of p) result ≡ next_due left.now (then_of p then) byte }
+    ensures fits { (p : Nesting) → AdmitsThen p then → IfSome result (Admits p) }
 {
     let (first, rest) = left.split_first()?;
     if *first != byte {
         return None;
     }
     if rest.is_empty() {
-        return Some(mode_behind(alloc, then));
+        return Some(context_behind(alloc, then));
     }
-    Some(Mode::Due { left: rest, then })
+    Some(Context::Due { left: rest, then })
 }
 
 /// A byte before the root, where a declaration may still come or not.
-pub(crate) fn outside(first: bool, at: u64, byte: u8) -> Option<Mode>
-    ensures step { (p : Place) → IsWhere Where.Before p → option_map (state_of p) result ≡ step_outside first at byte }
-    ensures fits { (p : Place) → IfSome result (Fits p) }
+pub(crate) fn outside(first: bool, at: u64, byte: u8) -> Option<Context>
+    ensures state { (p : Nesting) → IsWhere Where.Before p → option_map (state_of p) result ≡ next_outside first at byte }
+    ensures fits { (p : Nesting) → IfSome result (Admits p) }
 {
     if is_space_byte(byte) {
-        return Some(Mode::Item);
+        return Some(Context::Between);
     }
     if byte == b'<' {
-        return Some(Mode::Markup { first, begin: at });
+        return Some(Context::Markup { first, begin: at });
     }
     None
 }
 
 /// The first byte of all.
-pub(crate) fn start(at: u64, byte: u8) -> Option<Mode>
-    ensures step { (p : Place) → IsWhere Where.Before p → option_map (state_of p) result ≡ step at_start at byte }
-    ensures fits { (p : Place) → IsWhere Where.Before p → IfSome result (Fits p) }
+pub(crate) fn start(at: u64, byte: u8) -> Option<Context>
+    ensures state { (p : Nesting) → IsWhere Where.Before p → option_map (state_of p) result ≡ next_state at_start at byte }
+    ensures fits { (p : Nesting) → IsWhere Where.Before p → IfSome result (Admits p) }
 {
     if byte == 0xEF {
-        return Some(Mode::Due {
+        return Some(Context::Due {
             left: b"\xBB\xBF",
             then: Then::First,
         });
@@ -76,18 +76,18 @@ pub(crate) fn start(at: u64, byte: u8) -> Option<Mode>
 }
 
 /// A byte behind `<!`.
-pub(crate) fn bang(place: Where, byte: u8) -> Option<Mode>
-    ensures step { (p : Place) → IsWhere place p → option_map (state_of p) result ≡ step_bang p byte }
-    ensures fits { (p : Place) → IsWhere place p → IfSome result (Fits p) }
+pub(crate) fn bang(nesting: Where, byte: u8) -> Option<Context>
+    ensures state { (p : Nesting) → IsWhere nesting p → option_map (state_of p) result ≡ next_at_bang p byte }
+    ensures fits { (p : Nesting) → IsWhere nesting p → IfSome result (Admits p) }
 {
     if byte == b'-' {
-        return Some(Mode::Due {
+        return Some(Context::Due {
             left: b"-",
             then: Then::Comment,
         });
     }
-    match place {
-        Where::Within if byte == b'[' => Some(Mode::Due {
+    match nesting {
+        Where::Within if byte == b'[' => Some(Context::Due {
             left: b"CDATA[",
             then: Then::Section,
         }),
@@ -96,31 +96,31 @@ pub(crate) fn bang(place: Where, byte: u8) -> Option<Mode>
 }
 
 /// A byte of a comment.
-pub(crate) fn comment(dash: bool, byte: u8) -> Mode
-    ensures step { (p : Place) → Some (state_of p result) ≡ step_comment p dash byte }
-    ensures fits { (p : Place) → Fits p result }
+pub(crate) fn comment(dash: bool, byte: u8) -> Context
+    ensures state { (p : Nesting) → Some (state_of p result) ≡ next_in_comment p dash byte }
+    ensures fits { (p : Nesting) → Admits p result }
 {
     if byte != b'-' {
-        return Mode::Comment { dash: false };
+        return Context::Comment { dash: false };
     }
     if dash {
-        return Mode::Due {
+        return Context::Due {
             left: b">",
-            then: Then::Item,
+            then: Then::Between,
         };
     }
-    Mode::Comment { dash: true }
+    Context::Comment { dash: true }
 }
 
 /// A byte of the text of a processing instruction.
-pub(crate) fn instruction(question: bool, byte: u8) -> Mode
-    ensures step { (p : Place) → Some (state_of p result) ≡ step_instruction p question byte }
-    ensures fits { (p : Place) → Fits p result }
+pub(crate) fn instruction(question: bool, byte: u8) -> Context
+    ensures state { (p : Nesting) → Some (state_of p result) ≡ next_in_instruction p question byte }
+    ensures fits { (p : Nesting) → Admits p result }
 {
     if question && byte == b'>' {
-        return Mode::Item;
+        return Context::Between;
     }
-    Mode::Instruction {
+    Context::Instruction {
         question: byte == b'?',
     }
 }
@@ -133,14 +133,14 @@ fn is_xml_name(name: &[u8]) -> bool
 }
 
 /// A byte behind the whole name of a processing instruction, or of a declaration.
-fn behind_target(place: Where, first: bool, name: &[u8], byte: u8) -> Option<Mode>
+fn behind_target(nesting: Where, first: bool, name: &[u8], byte: u8) -> Option<Context>
     requires { is_name_part byte ≡ false }
-    ensures step { (p : Place) → (name.now ≡ [] → ⊥) → IsWhere place p → option_map (state_of p) result ≡ step_target first p name.now byte }
-    ensures fits { (p : Place) → IsWhere place p → IfSome result (Fits p) }
+    ensures state { (p : Nesting) → (name.now ≡ [] → ⊥) → IsWhere nesting p → option_map (state_of p) result ≡ next_in_target first p name.now byte }
+    ensures fits { (p : Nesting) → IsWhere nesting p → IfSome result (Admits p) }
 {
     let space = is_space_byte(byte);
-    if space && first && matches!(place, Where::Before) && name == b"xml".as_slice() {
-        return Some(Mode::Declaration {
+    if space && first && matches!(nesting, Where::Before) && name == b"xml".as_slice() {
+        return Some(Context::Declaration {
             stage: Stage::All,
             spaced: true,
         });
@@ -149,12 +149,12 @@ fn behind_target(place: Where, first: bool, name: &[u8], byte: u8) -> Option<Mod
         return None;
     }
     if space {
-        return Some(Mode::Instruction { question: false });
+        return Some(Context::Instruction { question: false });
     }
     if byte == b'?' {
-        return Some(Mode::Due {
+        return Some(Context::Due {
             left: b">",
-            then: Then::Item,
+            then: Then::Between,
         });
     }
     None
@@ -162,13 +162,13 @@ fn behind_target(place: Where, first: bool, name: &[u8], byte: u8) -> Option<Mod
 
 /// A byte of the name of a processing instruction, or of what may be a declaration.
 pub(crate) fn target(
-    place: Where,
+    nesting: Where,
     first: bool,
     mut name: Vec<u8>,
     byte: u8,
-) -> Result<Option<Mode>, AllocError>
-    ensures step { IfOk result (λ m. (p : Place) → IsWhere place p → option_map (state_of p) m ≡ step_target first p name.items byte) }
-    ensures fits { IfOk result (λ m. (p : Place) → IsWhere place p → IfSome m (Fits p)) }
+) -> Result<Option<Context>, AllocError>
+    ensures state { IfOk result (λ m. (p : Nesting) → IsWhere nesting p → option_map (state_of p) m ≡ next_in_target first p name.items byte) }
+    ensures fits { IfOk result (λ m. (p : Nesting) → IsWhere nesting p → IfSome m (Admits p)) }
 {
     let more = if name.is_empty() {
         begins_name(byte)
@@ -177,40 +177,40 @@ pub(crate) fn target(
     };
     if more {
         name.push(byte)?;
-        return Ok(Some(Mode::Target { first, name }));
+        return Ok(Some(Context::Target { first, name }));
     }
     if name.is_empty() {
         return Ok(None);
     }
-    Ok(behind_target(place, first, &name, byte))
+    Ok(behind_target(nesting, first, &name, byte))
 }
 
 /// A byte behind `<`; `room` where an element may begin here.
 pub(crate) fn markup(
     alloc: Global,
-    place: Where,
+    nesting: Where,
     room: bool,
     first: bool,
     begin: u64,
     byte: u8,
-) -> Result<Option<Mode>, AllocError>
-    ensures step { IfOk result (λ m. (p : Place) → IsWhere place p → IsRoom room p → option_map (state_of p) m ≡ step_markup first p begin byte) }
-    ensures fits { IfOk result (λ m. (p : Place) → IsWhere place p → IsRoom room p → IfSome m (Fits p)) }
+) -> Result<Option<Context>, AllocError>
+    ensures state { IfOk result (λ m. (p : Nesting) → IsWhere nesting p → IsRoom room p → option_map (state_of p) m ≡ next_at_markup first p begin byte) }
+    ensures fits { IfOk result (λ m. (p : Nesting) → IsWhere nesting p → IsRoom room p → IfSome m (Admits p)) }
 {
     match byte {
-        b'!' => Ok(Some(Mode::Bang)),
-        b'?' => Ok(Some(Mode::Target {
+        b'!' => Ok(Some(Context::Bang)),
+        b'?' => Ok(Some(Context::Target {
             first,
             name: Vec::new(alloc),
         })),
-        b'/' => match place {
-            Where::Within => Ok(Some(Mode::EndName { read: 0 })),
+        b'/' => match nesting {
+            Where::Within => Ok(Some(Context::EndName { read: 0 })),
             _ => Ok(None),
         },
         _ => {
             if room && begins_name(byte) {
                 let name = begin_name(alloc, byte)?;
-                return Ok(Some(Mode::Name { begin, name }));
+                return Ok(Some(Context::Name { begin, name }));
             }
             Ok(None)
         }

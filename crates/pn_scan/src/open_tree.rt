@@ -6,16 +6,16 @@ ghost use Rattle.pn_tree.specs.Building.{with_attr, with_text};
 ghost use Rattle.pn_tree.specs.Elements.{attr_value};
 ghost use Rattle.pn_markup.specs.Tags.{named};
 ghost use Rattle.pn_scan.specs.State.{before, within};
-ghost use Rattle.pn_scan.specs.Places.{place_of, is_inside, levels_of, inner_of, outer_of, levels_for, outer_for, HasRoom, IsRoom, IsWhere, behind_place, Belongs};
-ghost use Rattle.pn_scan.specs.Plain.{due_front};
+ghost use Rattle.pn_scan.specs.Nestings.{nesting_of, is_inside, levels_of, inner_of, outer_of, levels_for, outer_for, HasRoom, IsRoom, IsWhere, behind_nesting, Belongs};
+ghost use Rattle.pn_scan.specs.Ordinary.{due_front};
 
-use crate::plain::due_front;
+use crate::ordinary::due_front;
 use indexmap::IndexSet;
 use pn_text::Text;
 use pn_tree::{Builder, Tree};
 use std::alloc::{AllocError, Global};
 
-/// Where an item stands: before the root, within an open element, or behind the root.
+/// Where a piece of content stands: before the root, within an open element, or behind the root.
 #[derive(Clone, Copy)]
 pub(crate) enum Where {
     Before,
@@ -71,7 +71,7 @@ impl OpenTree {
     /// Nothing was read yet. Takes no memory.
     pub(crate) fn new(alloc: Global) -> OpenTree
         ensures belongs { Belongs result }
-        ensures place { place_of result ≡ before }
+        ensures nesting { nesting_of result ≡ before }
     {
         OpenTree {
             alloc,
@@ -82,10 +82,10 @@ impl OpenTree {
         }
     }
 
-    /// Where the next item stands.
-    pub(crate) fn place(&self) -> Where
+    /// Where the next piece of content stands.
+    pub(crate) fn nesting(&self) -> Where
         requires { Belongs self.now }
-        ensures { IsWhere result (place_of self.now) }
+        ensures { IsWhere result (nesting_of self.now) }
     {
         if self.ended {
             return Where::Behind;
@@ -99,7 +99,7 @@ impl OpenTree {
     /// Whether an element may begin here.
     pub(crate) fn has_room(&self) -> bool
         requires { Belongs self.now }
-        ensures { IsRoom result (place_of self.now) }
+        ensures { IsRoom result (nesting_of self.now) }
     {
         !self.ended && self.names.len() < 256
     }
@@ -108,9 +108,9 @@ impl OpenTree {
     pub(crate) fn begin(&mut self, name: &[u8], at: u64) -> Result<(), AllocError>
         requires belongs { Belongs self.old }
         requires name { is_name name.now ≡ true }
-        requires room { HasRoom (place_of self.old) }
-        ensures place { OnOk result
-            (place_of self.new ≡ within (levels_for (place_of self.old)) (named name.now at) (outer_for (place_of self.old))) }
+        requires room { HasRoom (nesting_of self.old) }
+        ensures nesting { OnOk result
+            (nesting_of self.new ≡ within (levels_for (nesting_of self.old)) (named name.now at) (outer_for (nesting_of self.old))) }
         ensures belongs { OnOk result (Belongs self.new) }
     {
         let name = as_text(name);
@@ -123,13 +123,13 @@ impl OpenTree {
     /// Gives the innermost open element an attribute.
     pub(crate) fn attr(&mut self, name: &[u8], value: &[u8]) -> Result<(), AllocError>
         requires belongs { Belongs self.old }
-        requires inside { is_inside (place_of self.old) ≡ true }
+        requires inside { is_inside (nesting_of self.old) ≡ true }
         requires name { is_name name.now ≡ true }
         requires value { is_text value.now ≡ true }
-        requires before_kids { (inner_of (place_of self.old)).kids ≡ [] }
-        requires is_new { is_some (attr_value name.now (inner_of (place_of self.old)).attrs) ≡ false }
-        ensures place { OnOk result (place_of self.new
-            ≡ within (levels_of (place_of self.old)) (with_attr name.now value.now (inner_of (place_of self.old))) (outer_of (place_of self.old))) }
+        requires before_kids { (inner_of (nesting_of self.old)).kids ≡ [] }
+        requires is_new { is_some (attr_value name.now (inner_of (nesting_of self.old)).attrs) ≡ false }
+        ensures nesting { OnOk result (nesting_of self.new
+            ≡ within (levels_of (nesting_of self.old)) (with_attr name.now value.now (inner_of (nesting_of self.old))) (outer_of (nesting_of self.old))) }
         ensures belongs { OnOk result (Belongs self.new) }
     {
         let name = as_text(name);
@@ -141,10 +141,10 @@ impl OpenTree {
     /// Whether the innermost open element, which has no kids yet, has an attribute of this name.
     pub(crate) fn has_attr(&self, name: &[u8]) -> bool
         requires belongs { Belongs self.now }
-        requires inside { is_inside (place_of self.now) ≡ true }
+        requires inside { is_inside (nesting_of self.now) ≡ true }
         requires name { is_text name.now ≡ true }
-        requires before_kids { (inner_of (place_of self.now)).kids ≡ [] }
-        ensures { result ≡ is_some (attr_value name.now (inner_of (place_of self.now)).attrs) }
+        requires before_kids { (inner_of (nesting_of self.now)).kids ≡ [] }
+        ensures { result ≡ is_some (attr_value name.now (inner_of (nesting_of self.now)).attrs) }
     {
         self.attributes.contains(as_text(name))
     }
@@ -152,10 +152,10 @@ impl OpenTree {
     /// Gives the innermost open element a text.
     pub(crate) fn text(&mut self, text: &[u8]) -> Result<(), AllocError>
         requires belongs { Belongs self.old }
-        requires inside { is_inside (place_of self.old) ≡ true }
+        requires inside { is_inside (nesting_of self.old) ≡ true }
         requires text { is_text text.now ≡ true }
-        ensures place { OnOk result (place_of self.new
-            ≡ within (levels_of (place_of self.old)) (with_text text.now (inner_of (place_of self.old))) (outer_of (place_of self.old))) }
+        ensures nesting { OnOk result (nesting_of self.new
+            ≡ within (levels_of (nesting_of self.old)) (with_text text.now (inner_of (nesting_of self.old))) (outer_of (nesting_of self.old))) }
         ensures belongs { OnOk result (Belongs self.new) }
     {
         self.builder.text(as_text(text))?;
@@ -165,8 +165,8 @@ impl OpenTree {
     /// A byte of the name of the innermost open element.
     pub(crate) fn name_byte(&self, index: usize) -> Option<u8>
         requires belongs { Belongs self.now }
-        requires inside { is_inside (place_of self.now) ≡ true }
-        ensures value { result ≡ slice_get (inner_of (place_of self.now)).name index }
+        requires inside { is_inside (nesting_of self.now) ≡ true }
+        ensures value { result ≡ slice_get (inner_of (nesting_of self.now)).name index }
         ensures within { IfSome result (λ _. index < usize.MAX) }
     {
         match self.names.last() {
@@ -179,8 +179,8 @@ impl OpenTree {
     /// the innermost open element.
     pub(crate) fn name_front(&self, read: usize, piece: &[u8]) -> usize
         requires belongs { Belongs self.now }
-        requires inside { is_inside (place_of self.now) ≡ true }
-        ensures value { result ≡ due_front (drop read (inner_of (place_of self.now)).name) piece.now }
+        requires inside { is_inside (nesting_of self.now) ≡ true }
+        ensures value { result ≡ due_front (drop read (inner_of (nesting_of self.now)).name) piece.now }
         ensures within { result ≤ length piece.now }
         ensures fits { read + result ≤ usize.MAX }
     {
@@ -193,9 +193,9 @@ impl OpenTree {
     /// Ends the innermost open element. Takes no memory.
     pub(crate) fn end(&mut self)
         requires belongs { Belongs self.old }
-        requires inside { is_inside (place_of self.old) ≡ true }
-        ensures place { place_of self.new
-            ≡ behind_place (suc (levels_of (place_of self.old))) (outer_of (place_of self.old)) (inner_of (place_of self.old)) }
+        requires inside { is_inside (nesting_of self.old) ≡ true }
+        ensures nesting { nesting_of self.new
+            ≡ behind_nesting (suc (levels_of (nesting_of self.old))) (outer_of (nesting_of self.old)) (inner_of (nesting_of self.old)) }
         ensures belongs { Belongs self.new }
     {
         self.builder.end();
@@ -206,8 +206,8 @@ impl OpenTree {
     /// The tree, behind its root. Takes no memory.
     pub(crate) fn finish(self) -> Tree
         requires belongs { Belongs self }
-        requires ended { IsWhere Where.Behind (place_of self) }
-        ensures { result ≡ inner_of (place_of self) }
+        requires ended { IsWhere Where.Behind (nesting_of self) }
+        ensures { result ≡ inner_of (nesting_of self) }
     {
         self.builder.finish()
     }

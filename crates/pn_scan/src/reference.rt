@@ -7,27 +7,27 @@ ghost use Rattle.pn_text.specs.Characters.{is_text, is_character, utf8_of};
 ghost use Rattle.pn_markup.specs.Bytes.{begins_with};
 ghost use Rattle.pn_markup.specs.References.{is_digit, entity_text};
 ghost use Rattle.pn_scan.specs.State.{behind_reference, at_reference, at_number};
-ghost use Rattle.pn_scan.specs.Step.{step, step_entity, step_number, entity_of, is_entity_front};
-ghost use Rattle.pn_scan.specs.Places.{place_of, Belongs};
-ghost use Rattle.pn_scan.specs.Modes.{state_of, holder_of, FitsHolder, FitsNumber, Fits};
+ghost use Rattle.pn_scan.specs.NextState.{next_state, next_in_entity, next_in_number, entity_of, is_entity_front};
+ghost use Rattle.pn_scan.specs.Nestings.{nesting_of, Belongs};
+ghost use Rattle.pn_scan.specs.Contexts.{state_of, holder_of, AdmitsHolder, FitsNumber, Admits};
 
-use crate::mode::{Holder, Mode};
+use crate::context::{Context, Holder};
 use crate::open_tree::OpenTree;
 use std::alloc::{AllocError, Global};
 
 /// How it goes on behind a reference that stands for this text.
-fn behind(tree: &mut OpenTree, holder: Holder, text: &[u8]) -> Result<Mode, AllocError>
+fn behind(tree: &mut OpenTree, holder: Holder, text: &[u8]) -> Result<Context, AllocError>
     requires belongs { Belongs tree.old }
-    requires holder { FitsHolder (place_of tree.old) holder }
+    requires holder { AdmitsHolder (nesting_of tree.old) holder }
     requires text { is_text text.now ≡ true }
-    ensures step { IfOk result (λ m. state_of (place_of tree.new) m ≡ behind_reference (holder_of (place_of tree.old) holder) text.now) }
-    ensures fits { IfOk result (Fits (place_of tree.new)) }
+    ensures state { IfOk result (λ m. state_of (nesting_of tree.new) m ≡ behind_reference (holder_of (nesting_of tree.old) holder) text.now) }
+    ensures fits { IfOk result (Admits (nesting_of tree.new)) }
     ensures belongs { OnOk result (Belongs tree.new) }
 {
     match holder {
         Holder::Content => {
             tree.text(text)?;
-            Ok(Mode::Item)
+            Ok(Context::Between)
         }
         Holder::Value {
             name,
@@ -35,7 +35,7 @@ fn behind(tree: &mut OpenTree, holder: Holder, text: &[u8]) -> Result<Mode, Allo
             mut value,
         } => {
             value.extend_from_slice(text)?;
-            Ok(Mode::Value {
+            Ok(Context::Value {
                 name,
                 quote,
                 value,
@@ -92,20 +92,20 @@ pub(crate) fn entity(
     holder: Holder,
     mut part: Vec<u8>,
     byte: u8,
-) -> Result<Option<Mode>, AllocError>
+) -> Result<Option<Context>, AllocError>
     requires belongs { Belongs tree.old }
-    requires holder { FitsHolder (place_of tree.old) holder }
-    ensures step { IfOk result (λ m. option_map (state_of (place_of tree.new)) m ≡ step_entity (holder_of (place_of tree.old) holder) part.items byte) }
-    ensures fits { IfOk result (λ m. IfSome m (Fits (place_of tree.new))) }
+    requires holder { AdmitsHolder (nesting_of tree.old) holder }
+    ensures state { IfOk result (λ m. option_map (state_of (nesting_of tree.new)) m ≡ next_in_entity (holder_of (nesting_of tree.old) holder) part.items byte) }
+    ensures fits { IfOk result (λ m. IfSome m (Admits (nesting_of tree.new))) }
     ensures belongs { OnOk result (Belongs tree.new) }
 {
     part.push(byte)?;
     if let Some(text) = entity_of_name(&part) {
-        let mode = behind(tree, holder, text)?;
-        return Ok(Some(mode));
+        let context = behind(tree, holder, text)?;
+        return Ok(Some(context));
     }
     if is_entity_begun(&part) {
-        return Ok(Some(Mode::Entity { holder, part }));
+        return Ok(Some(Context::Entity { holder, part }));
     }
     Ok(None)
 }
@@ -117,17 +117,17 @@ pub(crate) fn reference(
     holder: Holder,
     at: u64,
     byte: u8,
-) -> Result<Option<Mode>, AllocError>
+) -> Result<Option<Context>, AllocError>
     requires belongs { Belongs tree.old }
-    requires holder { FitsHolder (place_of tree.old) holder }
-    ensures step { IfOk result (λ m. option_map (state_of (place_of tree.new)) m ≡ step (at_reference (holder_of (place_of tree.old) holder)) at byte) }
-    ensures fits { IfOk result (λ m. IfSome m (Fits (place_of tree.new))) }
+    requires holder { AdmitsHolder (nesting_of tree.old) holder }
+    ensures state { IfOk result (λ m. option_map (state_of (nesting_of tree.new)) m ≡ next_state (at_reference (holder_of (nesting_of tree.old) holder)) at byte) }
+    ensures fits { IfOk result (λ m. IfSome m (Admits (nesting_of tree.new))) }
     ensures belongs { OnOk result (Belongs tree.new) }
 {
     if byte != b'#' {
         return entity(tree, holder, Vec::new(alloc), byte);
     }
-    Ok(Some(Mode::NumberSign { holder }))
+    Ok(Some(Context::NumberSign { holder }))
 }
 
 /// Whether a number is that of a character that a document may have.
@@ -170,20 +170,20 @@ fn number_end(
     tree: &mut OpenTree,
     holder: Holder,
     number: u32,
-) -> Result<Option<Mode>, AllocError>
+) -> Result<Option<Context>, AllocError>
     requires belongs { Belongs tree.old }
-    requires holder { FitsHolder (place_of tree.old) holder }
-    ensures step { IfOk result (λ m. option_map (state_of (place_of tree.new)) m
-        ≡ (if is_character number then Some (behind_reference (holder_of (place_of tree.old) holder) (utf8_of number)) else None)) }
-    ensures fits { IfOk result (λ m. IfSome m (Fits (place_of tree.new))) }
+    requires holder { AdmitsHolder (nesting_of tree.old) holder }
+    ensures state { IfOk result (λ m. option_map (state_of (nesting_of tree.new)) m
+        ≡ (if is_character number then Some (behind_reference (holder_of (nesting_of tree.old) holder) (utf8_of number)) else None)) }
+    ensures fits { IfOk result (λ m. IfSome m (Admits (nesting_of tree.new))) }
     ensures belongs { OnOk result (Belongs tree.new) }
 {
     if !is_character_number(number) {
         return Ok(None);
     }
     let text = character(alloc, number)?;
-    let mode = behind(tree, holder, text.as_bytes())?;
-    Ok(Some(mode))
+    let context = behind(tree, holder, text.as_bytes())?;
+    Ok(Some(context))
 }
 
 /// A byte of a number.
@@ -195,13 +195,13 @@ pub(crate) fn number(
     number: u32,
     any: bool,
     byte: u8,
-) -> Result<Option<Mode>, AllocError>
+) -> Result<Option<Context>, AllocError>
     requires belongs { Belongs tree.old }
-    requires holder { FitsHolder (place_of tree.old) holder }
+    requires holder { AdmitsHolder (nesting_of tree.old) holder }
     requires number { FitsNumber base number }
-    ensures step { IfOk result (λ m. option_map (state_of (place_of tree.new)) m
-        ≡ step_number (holder_of (place_of tree.old) holder) base number any byte) }
-    ensures fits { IfOk result (λ m. IfSome m (Fits (place_of tree.new))) }
+    ensures state { IfOk result (λ m. option_map (state_of (nesting_of tree.new)) m
+        ≡ next_in_number (holder_of (nesting_of tree.old) holder) base number any byte) }
+    ensures fits { IfOk result (λ m. IfSome m (Admits (nesting_of tree.new))) }
     ensures belongs { OnOk result (Belongs tree.new) }
 {
     if let Some(digit) = digit(base, byte) {
@@ -209,7 +209,7 @@ pub(crate) fn number(
         if number > 0x10_FFFF {
             return Ok(None);
         }
-        return Ok(Some(Mode::Number {
+        return Ok(Some(Context::Number {
             holder,
             base,
             number,
@@ -229,17 +229,17 @@ pub(crate) fn number_sign(
     holder: Holder,
     at: u64,
     byte: u8,
-) -> Result<Option<Mode>, AllocError>
+) -> Result<Option<Context>, AllocError>
     requires belongs { Belongs tree.old }
-    requires holder { FitsHolder (place_of tree.old) holder }
-    ensures step { IfOk result (λ m. option_map (state_of (place_of tree.new)) m ≡ step (at_number (holder_of (place_of tree.old) holder)) at byte) }
-    ensures fits { IfOk result (λ m. IfSome m (Fits (place_of tree.new))) }
+    requires holder { AdmitsHolder (nesting_of tree.old) holder }
+    ensures state { IfOk result (λ m. option_map (state_of (nesting_of tree.new)) m ≡ next_state (at_number (holder_of (nesting_of tree.old) holder)) at byte) }
+    ensures fits { IfOk result (λ m. IfSome m (Admits (nesting_of tree.new))) }
     ensures belongs { OnOk result (Belongs tree.new) }
 {
     if byte != b'x' {
         return number(alloc, tree, holder, 10, 0, false, byte);
     }
-    Ok(Some(Mode::Number {
+    Ok(Some(Context::Number {
         holder,
         base: 16,
         number: 0,

@@ -1,17 +1,17 @@
-//! Content: runs of characters, CDATA sections, and what stands between two items.
+//! Content: runs of characters, CDATA sections, and what stands between two pieces.
 
 ghost use Rattle.std.specs.Prelude.{◌≡◌, ◌<◌, ◌++◌, ◌==◌, true, OnOk, IfSome, IfOk};
 ghost use Rattle.std.specs.Option.{option_map};
 ghost use Rattle.pn_text.specs.Characters.{is_text};
-ghost use Rattle.pn_scan.specs.State.{Place, behind_item, in_section, no_bracket};
+ghost use Rattle.pn_scan.specs.State.{Nesting, behind_piece, in_section, no_bracket};
 ghost use Rattle.pn_scan.specs.Rest.{brackets as bracket_bytes};
-ghost use Rattle.pn_scan.specs.Step.{step, step_run, step_section, bracket_in, line_text, brackets_behind, cr_behind};
-ghost use Rattle.pn_scan.specs.Places.{place_of, is_inside, levels_of, inner_of, outer_of, Belongs};
-ghost use Rattle.pn_scan.specs.Modes.{state_of, brackets_of, step_behind, Fits};
+ghost use Rattle.pn_scan.specs.NextState.{next_state, next_in_run, next_in_section, bracket_in, line_text, brackets_behind, cr_behind};
+ghost use Rattle.pn_scan.specs.Nestings.{nesting_of, is_inside, levels_of, inner_of, outer_of, Belongs};
+ghost use Rattle.pn_scan.specs.Contexts.{state_of, brackets_of, next_behind_root, Admits};
 
 use crate::bytes::is_space_byte;
+use crate::context::{Brackets, Context, Holder};
 use crate::misc::outside;
-use crate::mode::{Brackets, Holder, Mode};
 use crate::open_tree::{OpenTree, Where};
 use std::alloc::{AllocError, Global};
 
@@ -47,25 +47,25 @@ pub(crate) fn run(
     cr: bool,
     at: u64,
     byte: u8,
-) -> Result<Option<Mode>, AllocError>
+) -> Result<Option<Context>, AllocError>
     requires belongs { Belongs tree.old }
-    requires inside { is_inside (place_of tree.old) ≡ true }
+    requires inside { is_inside (nesting_of tree.old) ≡ true }
     requires whole { byte < 128 → is_text text.items ≡ true }
-    ensures step { IfOk result (λ m. option_map (state_of (place_of tree.new)) m
-        ≡ step_run (levels_of (place_of tree.old)) (inner_of (place_of tree.old)) (outer_of (place_of tree.old)) text.items (brackets_of brackets) cr at byte) }
-    ensures fits { IfOk result (λ m. IfSome m (Fits (place_of tree.new))) }
+    ensures state { IfOk result (λ m. option_map (state_of (nesting_of tree.new)) m
+        ≡ next_in_run (levels_of (nesting_of tree.old)) (inner_of (nesting_of tree.old)) (outer_of (nesting_of tree.old)) text.items (brackets_of brackets) cr at byte) }
+    ensures fits { IfOk result (λ m. IfSome m (Admits (nesting_of tree.new))) }
     ensures belongs { OnOk result (Belongs tree.new) }
 {
     if byte == b'<' {
         tree.text(&text)?;
-        return Ok(Some(Mode::Markup {
+        return Ok(Some(Context::Markup {
             first: false,
             begin: at,
         }));
     }
     if byte == b'&' {
         tree.text(&text)?;
-        return Ok(Some(Mode::Reference {
+        return Ok(Some(Context::Reference {
             holder: Holder::Content,
         }));
     }
@@ -73,7 +73,7 @@ pub(crate) fn run(
         return Ok(None);
     }
     put_line_byte(&mut text, cr, byte)?;
-    Ok(Some(Mode::Run {
+    Ok(Some(Context::Run {
         text,
         brackets: next_brackets(brackets, byte),
         cr: byte == b'\r',
@@ -81,15 +81,15 @@ pub(crate) fn run(
 }
 
 /// A byte behind the root.
-fn behind_root(at: u64, byte: u8) -> Option<Mode>
-    ensures step { (p : Place) → option_map (state_of p) result ≡ step_behind p at byte }
-    ensures fits { (p : Place) → IfSome result (Fits p) }
+fn behind_root(at: u64, byte: u8) -> Option<Context>
+    ensures state { (p : Nesting) → option_map (state_of p) result ≡ next_behind_root p at byte }
+    ensures fits { (p : Nesting) → IfSome result (Admits p) }
 {
     if is_space_byte(byte) {
-        return Some(Mode::Item);
+        return Some(Context::Between);
     }
     if byte == b'<' {
-        return Some(Mode::Markup {
+        return Some(Context::Markup {
             first: false,
             begin: at,
         });
@@ -97,19 +97,19 @@ fn behind_root(at: u64, byte: u8) -> Option<Mode>
     None
 }
 
-/// A byte between two items.
-pub(crate) fn item(
+/// A byte between two pieces of content.
+pub(crate) fn between(
     alloc: Global,
     tree: &mut OpenTree,
     at: u64,
     byte: u8,
-) -> Result<Option<Mode>, AllocError>
+) -> Result<Option<Context>, AllocError>
     requires belongs { Belongs tree.old }
-    ensures step { IfOk result (λ m. option_map (state_of (place_of tree.new)) m ≡ step (behind_item (place_of tree.old)) at byte) }
-    ensures fits { IfOk result (λ m. IfSome m (Fits (place_of tree.new))) }
+    ensures state { IfOk result (λ m. option_map (state_of (nesting_of tree.new)) m ≡ next_state (behind_piece (nesting_of tree.old)) at byte) }
+    ensures fits { IfOk result (λ m. IfSome m (Admits (nesting_of tree.new))) }
     ensures belongs { OnOk result (Belongs tree.new) }
 {
-    match tree.place() {
+    match tree.nesting() {
         Where::Before => Ok(outside(false, at, byte)),
         Where::Behind => Ok(behind_root(at, byte)),
         Where::Within => run(tree, Vec::new(alloc), Brackets::Zero, false, at, byte),
@@ -128,25 +128,25 @@ fn put_brackets(text: &mut Vec<u8>, brackets: Brackets) -> Result<(), AllocError
 }
 
 /// A bracket in a section: of three the first is text.
-fn bracket(mut text: Vec<u8>, brackets: Brackets, cr: bool) -> Result<Mode, AllocError>
-    ensures step { IfOk result (λ m. (p : Place) → state_of p m
+fn bracket(mut text: Vec<u8>, brackets: Brackets, cr: bool) -> Result<Context, AllocError>
+    ensures state { IfOk result (λ m. (p : Nesting) → state_of p m
         ≡ bracket_in (levels_of p) (inner_of p) (outer_of p) text.items (brackets_of brackets) cr) }
-    ensures fits { IfOk result (λ m. (p : Place) → is_inside p ≡ true → Fits p m) }
+    ensures fits { IfOk result (λ m. (p : Nesting) → is_inside p ≡ true → Admits p m) }
 {
     match brackets {
-        Brackets::Zero => Ok(Mode::Section {
+        Brackets::Zero => Ok(Context::Section {
             text,
             brackets: Brackets::One,
             cr,
         }),
-        Brackets::One => Ok(Mode::Section {
+        Brackets::One => Ok(Context::Section {
             text,
             brackets: Brackets::Two,
             cr,
         }),
         Brackets::Two => {
             text.push(b']')?;
-            Ok(Mode::Section {
+            Ok(Context::Section {
                 text,
                 brackets,
                 cr: false,
@@ -161,16 +161,16 @@ fn section_byte(
     brackets: Brackets,
     cr: bool,
     byte: u8,
-) -> Result<Mode, AllocError>
-    ensures step { IfOk result (λ m. (p : Place) → state_of p m
+) -> Result<Context, AllocError>
+    ensures state { IfOk result (λ m. (p : Nesting) → state_of p m
         ≡ in_section (levels_of p) (inner_of p) (outer_of p)
         ((text.items ++ bracket_bytes (brackets_of brackets)) ++ line_text (cr_behind (brackets_of brackets) cr) byte) no_bracket (byte == 13)) }
-    ensures fits { IfOk result (λ m. (p : Place) → is_inside p ≡ true → Fits p m) }
+    ensures fits { IfOk result (λ m. (p : Nesting) → is_inside p ≡ true → Admits p m) }
 {
     put_brackets(&mut text, brackets)?;
     let behind_cr = cr && matches!(brackets, Brackets::Zero);
     put_line_byte(&mut text, behind_cr, byte)?;
-    Ok(Mode::Section {
+    Ok(Context::Section {
         text,
         brackets: Brackets::Zero,
         cr: byte == b'\r',
@@ -184,13 +184,13 @@ pub(crate) fn section(
     brackets: Brackets,
     cr: bool,
     byte: u8,
-) -> Result<Option<Mode>, AllocError>
+) -> Result<Option<Context>, AllocError>
     requires belongs { Belongs tree.old }
-    requires inside { is_inside (place_of tree.old) ≡ true }
+    requires inside { is_inside (nesting_of tree.old) ≡ true }
     requires whole { byte < 128 → is_text text.items ≡ true }
-    ensures step { IfOk result (λ m. option_map (state_of (place_of tree.new)) m
-        ≡ step_section (levels_of (place_of tree.old)) (inner_of (place_of tree.old)) (outer_of (place_of tree.old)) text.items (brackets_of brackets) cr byte) }
-    ensures fits { IfOk result (λ m. IfSome m (Fits (place_of tree.new))) }
+    ensures state { IfOk result (λ m. option_map (state_of (nesting_of tree.new)) m
+        ≡ next_in_section (levels_of (nesting_of tree.old)) (inner_of (nesting_of tree.old)) (outer_of (nesting_of tree.old)) text.items (brackets_of brackets) cr byte) }
+    ensures fits { IfOk result (λ m. IfSome m (Admits (nesting_of tree.new))) }
     ensures belongs { OnOk result (Belongs tree.new) }
 {
     if byte == b']' {
@@ -198,7 +198,7 @@ pub(crate) fn section(
     }
     if byte == b'>' && matches!(brackets, Brackets::Two) {
         tree.text(&text)?;
-        return Ok(Some(Mode::Item));
+        return Ok(Some(Context::Between));
     }
     Ok(Some(section_byte(text, brackets, cr, byte)?))
 }

@@ -2,17 +2,17 @@
 
 ghost use Rattle.std.specs.Prelude.{◌≡◌, ◌⊎◌, ◌<◌, ◌≤◌, ◌++◌, ◌∷◌, ℕ, List, [], length, take, None, Some, IfOk, MatchResult};
 ghost use Rattle.pn_markup.specs.Document.{IsDocument, IsFront};
-ghost use Rattle.pn_markup.specs.Offsets.{IsOrdered};
-ghost use Rattle.pn_scan.specs.Places.{place_of, IsWhere, Belongs};
-ghost use Rattle.pn_scan.specs.Modes.{state_of, Fits};
-ghost use Rattle.pn_scan.specs.State.{Place};
+ghost use Rattle.pn_markup.specs.Offsets.{HasRisingOffsets};
+ghost use Rattle.pn_scan.specs.Nestings.{nesting_of, IsWhere, Belongs};
+ghost use Rattle.pn_scan.specs.Contexts.{state_of, Admits};
+ghost use Rattle.pn_scan.specs.State.{Nesting};
 ghost use Rattle.pn_scan.specs.Reading.{IsReading, IsBroken, IsTooLong, IsOnlyFront, IsMemory, HasReadTo, HasRead, EndsAt, answer_of, fault_of};
 
 use crate::advance::advance;
 use crate::characters::Open;
-use crate::mode::{Brackets, Mode};
+use crate::context::{Brackets, Context};
 use crate::open_tree::{OpenTree, Where};
-use crate::plain::take_plain;
+use crate::ordinary::take_ordinary;
 use pn_outside::limits::BYTES;
 use pn_tree::Tree;
 use std::alloc::{AllocError, Global};
@@ -39,18 +39,18 @@ pub enum ScanFault {
 pub struct Scanner {
     alloc: Global,
     tree: OpenTree,
-    mode: Mode,
+    context: Context,
     opened: Open,
     count: u64,
     fault: Option<ScanFault>,
 }
 
 /// Whether a document ends here.
-fn is_at_end(mode: &Mode, place: Where, opened: Open) -> bool
-    ensures { (p : Place) → IsWhere place p → EndsAt result p mode.now opened }
+fn is_at_end(context: &Context, nesting: Where, opened: Open) -> bool
+    ensures { (p : Nesting) → IsWhere nesting p → EndsAt result p context.now opened }
 {
-    match mode {
-        Mode::Item => matches!(place, Where::Behind) && matches!(opened, Open::Nothing),
+    match context {
+        Context::Between => matches!(nesting, Where::Behind) && matches!(opened, Open::Nothing),
         _ => false,
     }
 }
@@ -66,14 +66,14 @@ fn front_of(piece: &[u8], room: u64) -> &[u8]
     &piece[..room as usize]
 }
 
-/// Between two items within an element a run begins.
-fn begin_run(alloc: Global, tree: &OpenTree, mode: &mut Mode)
+/// Between two pieces within an element a run begins.
+fn begin_run(alloc: Global, tree: &OpenTree, context: &mut Context)
     requires { Belongs tree.now }
-    ensures state { state_of (place_of tree.now) mode.new ≡ state_of (place_of tree.now) mode.old }
-    ensures fits { Fits (place_of tree.now) mode.old → Fits (place_of tree.now) mode.new }
+    ensures state { state_of (nesting_of tree.now) context.new ≡ state_of (nesting_of tree.now) context.old }
+    ensures fits { Admits (nesting_of tree.now) context.old → Admits (nesting_of tree.now) context.new }
 {
-    if matches!(mode, Mode::Item) && matches!(tree.place(), Where::Within) {
-        *mode = Mode::Run {
+    if matches!(context, Context::Between) && matches!(tree.nesting(), Where::Within) {
+        *context = Context::Run {
             text: Vec::new(alloc),
             brackets: Brackets::Zero,
             cr: false,
@@ -90,7 +90,7 @@ impl Scanner {
         Scanner {
             alloc,
             tree: OpenTree::new(alloc),
-            mode: Mode::Start,
+            context: Context::Start,
             opened: Open::Nothing,
             count: 0,
             fault: None,
@@ -99,9 +99,9 @@ impl Scanner {
 
     /// Takes a byte; answers the fault that it makes.
     fn read(&mut self, byte: u8) -> Option<ScanFault>
-        requires { (b : List ℕ) × IsReading self.old.tree self.old.mode self.old.opened self.old.count b }
-        ensures { (b : List ℕ) → IsReading self.old.tree self.old.mode self.old.opened self.old.count b
-            → HasReadTo result self.new.tree self.new.mode self.new.opened self.new.count (b ++ byte ∷ []) }
+        requires { (b : List ℕ) × IsReading self.old.tree self.old.context self.old.opened self.old.count b }
+        ensures { (b : List ℕ) → IsReading self.old.tree self.old.context self.old.opened self.old.count b
+            → HasReadTo result self.new.tree self.new.context self.new.opened self.new.count (b ++ byte ∷ []) }
     {
         if self.count == BYTES {
             return Some(ScanFault::TooLong);
@@ -109,10 +109,10 @@ impl Scanner {
         let Some(opened) = self.opened.next(byte) else {
             return Some(ScanFault::Broken(self.count));
         };
-        let mode = mem::replace(&mut self.mode, Mode::Start);
-        match advance(self.alloc, &mut self.tree, mode, self.count, byte) {
-            Ok(Some(mode)) => {
-                self.mode = mode;
+        let context = mem::replace(&mut self.context, Context::Start);
+        match advance(self.alloc, &mut self.tree, context, self.count, byte) {
+            Ok(Some(context)) => {
+                self.context = context;
                 self.opened = opened;
                 self.count += 1;
                 None
@@ -123,48 +123,48 @@ impl Scanner {
     }
 
     /// Takes the bytes at the front of a piece that stand for themselves here; answers how many.
-    fn read_plain(&mut self, piece: &[u8]) -> Result<usize, AllocError>
-        requires { (b : List ℕ) × IsReading self.old.tree self.old.mode self.old.opened self.old.count b }
+    fn read_ordinary(&mut self, piece: &[u8]) -> Result<usize, AllocError>
+        requires { (b : List ℕ) × IsReading self.old.tree self.old.context self.old.opened self.old.count b }
         ensures within { IfOk result (λ n. n ≤ length piece.now) }
-        ensures read { IfOk result (λ n. (b : List ℕ) → IsReading self.old.tree self.old.mode self.old.opened self.old.count b
-            → IsReading self.new.tree self.new.mode self.new.opened self.new.count (b ++ take n piece.now)) }
+        ensures read { IfOk result (λ n. (b : List ℕ) → IsReading self.old.tree self.old.context self.old.opened self.old.count b
+            → IsReading self.new.tree self.new.context self.new.opened self.new.count (b ++ take n piece.now)) }
         ensures fault { fault_of self.new ≡ fault_of self.old }
     {
         let Open::Nothing = self.opened else {
             return Ok(0);
         };
-        begin_run(self.alloc, &self.tree, &mut self.mode);
-        let plain = take_plain(&mut self.mode, front_of(piece, BYTES - self.count))?;
-        self.count += plain as u64;
-        Ok(plain)
+        begin_run(self.alloc, &self.tree, &mut self.context);
+        let ordinary = take_ordinary(&mut self.context, front_of(piece, BYTES - self.count))?;
+        self.count += ordinary as u64;
+        Ok(ordinary)
     }
 
     /// Takes the bytes at the front of a piece that are due of the name of an end tag; answers how
     /// many.
     fn read_name(&mut self, piece: &[u8]) -> usize
-        requires { (b : List ℕ) × IsReading self.old.tree self.old.mode self.old.opened self.old.count b }
+        requires { (b : List ℕ) × IsReading self.old.tree self.old.context self.old.opened self.old.count b }
         ensures within { result ≤ length piece.now }
-        ensures read { (b : List ℕ) → IsReading self.old.tree self.old.mode self.old.opened self.old.count b
-            → IsReading self.new.tree self.new.mode self.new.opened self.new.count (b ++ take result piece.now) }
+        ensures read { (b : List ℕ) → IsReading self.old.tree self.old.context self.old.opened self.old.count b
+            → IsReading self.new.tree self.new.context self.new.opened self.new.count (b ++ take result piece.now) }
         ensures fault { fault_of self.new ≡ fault_of self.old }
     {
         let Open::Nothing = self.opened else {
             return 0;
         };
-        let Mode::EndName { read } = self.mode else {
+        let Context::EndName { read } = self.context else {
             return 0;
         };
         let size = self
             .tree
             .name_front(read, front_of(piece, BYTES - self.count));
-        self.mode = Mode::EndName { read: read + size };
+        self.context = Context::EndName { read: read + size };
         self.count += size as u64;
         size
     }
 
     /// Takes the bytes at the front of a piece that stand for themselves here, where no fault was
     /// found yet; answers how many.
-    fn take_plain(&mut self, piece: &[u8]) -> usize
+    fn take_ordinary(&mut self, piece: &[u8]) -> usize
         requires { (b : List ℕ) × HasRead self.old b }
         ensures within { result ≤ length piece.now }
         ensures read { (b : List ℕ) → HasRead self.old b → HasRead self.new (b ++ take result piece.now) }
@@ -173,9 +173,9 @@ impl Scanner {
         if self.fault.is_some() {
             return 0;
         }
-        match self.read_plain(piece) {
+        match self.read_ordinary(piece) {
             Ok(0) => self.read_name(piece),
-            Ok(plain) => plain,
+            Ok(ordinary) => ordinary,
             Err(error) => {
                 self.fault = Some(ScanFault::Memory(error));
                 0
@@ -205,9 +205,9 @@ impl Scanner {
         ensures read { (b : List ℕ) → HasRead self.old b → HasRead self.new (b ++ take result piece.now) }
         ensures again { (f : ScanFault) → fault_of self.old ≡ Some f → fault_of self.new ≡ Some f }
     {
-        let plain = self.take_plain(piece);
-        if plain > 0 {
-            return plain;
+        let ordinary = self.take_ordinary(piece);
+        if ordinary > 0 {
+            return ordinary;
         }
         self.take(piece[0]);
         1
@@ -246,13 +246,13 @@ impl Scanner {
 
     /// The end, where no fault was found.
     fn end(self) -> Result<Tree, ScanFault>
-        requires { (b : List ℕ) × IsReading self.tree self.mode self.opened self.count b }
-        ensures ends { (b : List ℕ) → IsReading self.tree self.mode self.opened self.count b
+        requires { (b : List ℕ) × IsReading self.tree self.context self.opened self.count b }
+        ensures ends { (b : List ℕ) → IsReading self.tree self.context self.opened self.count b
             → MatchResult result (λ t. IsDocument t b) (λ f. (f ≡ ScanFault.Broken (length b)) × IsOnlyFront b) }
-        ensures ordered { IfOk result IsOrdered }
+        ensures ordered { IfOk result HasRisingOffsets }
     {
-        let place = self.tree.place();
-        if is_at_end(&self.mode, place, self.opened) {
+        let nesting = self.tree.nesting();
+        if is_at_end(&self.context, nesting, self.opened) {
             return Ok(self.tree.finish());
         }
         Err(ScanFault::Broken(self.count))
@@ -265,7 +265,7 @@ impl Scanner {
         ensures again { (f : ScanFault) → fault_of self ≡ Some f → result ≡ Err f }
         ensures ends { (b : List ℕ) → fault_of self ≡ None → HasRead self b
             → MatchResult result (λ t. IsDocument t b) (λ f. (f ≡ ScanFault.Broken (length b)) × IsOnlyFront b) }
-        ensures ordered { IfOk result IsOrdered }
+        ensures ordered { IfOk result HasRisingOffsets }
     {
         match self.fault {
             Some(fault) => Err(fault),

@@ -3,13 +3,13 @@
 ghost use Rattle.std.specs.Prelude.{◌≡◌, ◌<◌, ◌+◌, ◌==◌, true, None, Some, OnOk, IfSome, IfOk, if◌then◌else◌};
 ghost use Rattle.std.specs.Option.{option_map};
 ghost use Rattle.pn_text.specs.Characters.{is_name};
-ghost use Rattle.pn_scan.specs.Step.{step, step_tag};
-ghost use Rattle.pn_scan.specs.Places.{place_of, is_inside, levels_of, inner_of, outer_of, levels_for, outer_for, HasRoom, Belongs};
-ghost use Rattle.pn_scan.specs.State.{Place, in_name};
-ghost use Rattle.pn_scan.specs.Modes.{state_of, end_state, end_of, IsTag, Fits};
+ghost use Rattle.pn_scan.specs.NextState.{next_state, next_in_tag};
+ghost use Rattle.pn_scan.specs.Nestings.{nesting_of, is_inside, levels_of, inner_of, outer_of, levels_for, outer_for, HasRoom, Belongs};
+ghost use Rattle.pn_scan.specs.State.{Nesting, in_name};
+ghost use Rattle.pn_scan.specs.Contexts.{state_of, end_state, end_of, IsTag, Admits};
 
 use crate::bytes::{begin_name, begins_name, continues_name, is_space_byte};
-use crate::mode::{Mode, Then};
+use crate::context::{Context, Then};
 use crate::open_tree::OpenTree;
 use std::alloc::{AllocError, Global};
 
@@ -19,30 +19,30 @@ pub(crate) fn tag(
     tree: &mut OpenTree,
     spaced: bool,
     byte: u8,
-) -> Result<Option<Mode>, AllocError>
+) -> Result<Option<Context>, AllocError>
     requires belongs { Belongs tree.old }
-    requires is_tag { IsTag (place_of tree.old) }
-    ensures step { IfOk result (λ m. option_map (state_of (place_of tree.new)) m
-        ≡ step_tag (levels_of (place_of tree.old)) (outer_of (place_of tree.old)) (inner_of (place_of tree.old)) spaced byte) }
-    ensures fits { IfOk result (λ m. IfSome m (Fits (place_of tree.new))) }
+    requires is_tag { IsTag (nesting_of tree.old) }
+    ensures state { IfOk result (λ m. option_map (state_of (nesting_of tree.new)) m
+        ≡ next_in_tag (levels_of (nesting_of tree.old)) (outer_of (nesting_of tree.old)) (inner_of (nesting_of tree.old)) spaced byte) }
+    ensures fits { IfOk result (λ m. IfSome m (Admits (nesting_of tree.new))) }
     ensures belongs { OnOk result (Belongs tree.new) }
 {
     if is_space_byte(byte) {
-        return Ok(Some(Mode::Tag { spaced: true }));
+        return Ok(Some(Context::Tag { spaced: true }));
     }
     if byte == b'/' {
         tree.end();
-        return Ok(Some(Mode::Due {
+        return Ok(Some(Context::Due {
             left: b">",
-            then: Then::Item,
+            then: Then::Between,
         }));
     }
     if byte == b'>' {
-        return Ok(Some(Mode::Item));
+        return Ok(Some(Context::Between));
     }
     if spaced && begins_name(byte) {
         let name = begin_name(alloc, byte)?;
-        return Ok(Some(Mode::Attribute { name }));
+        return Ok(Some(Context::Attribute { name }));
     }
     Ok(None)
 }
@@ -55,60 +55,60 @@ pub(crate) fn name(
     mut name: Vec<u8>,
     at: u64,
     byte: u8,
-) -> Result<Option<Mode>, AllocError>
+) -> Result<Option<Context>, AllocError>
     requires belongs { Belongs tree.old }
-    requires room { HasRoom (place_of tree.old) }
+    requires room { HasRoom (nesting_of tree.old) }
     requires whole { byte < 128 → is_name name.items ≡ true }
-    ensures step { IfOk result (λ m. option_map (state_of (place_of tree.new)) m
-        ≡ step (in_name (levels_for (place_of tree.old)) (outer_for (place_of tree.old)) begin name.items) at byte) }
-    ensures fits { IfOk result (λ m. IfSome m (Fits (place_of tree.new))) }
+    ensures state { IfOk result (λ m. option_map (state_of (nesting_of tree.new)) m
+        ≡ next_state (in_name (levels_for (nesting_of tree.old)) (outer_for (nesting_of tree.old)) begin name.items) at byte) }
+    ensures fits { IfOk result (λ m. IfSome m (Admits (nesting_of tree.new))) }
     ensures belongs { OnOk result (Belongs tree.new) }
 {
     if continues_name(byte) {
         name.push(byte)?;
-        return Ok(Some(Mode::Name { begin, name }));
+        return Ok(Some(Context::Name { begin, name }));
     }
     tree.begin(&name, begin)?;
     tag(alloc, tree, false, byte)
 }
 
 /// A byte of the name in an end tag, where `due` comes behind so many bytes of it.
-fn end_byte(due: u8, read: usize, byte: u8) -> Option<Mode>
+fn end_byte(due: u8, read: usize, byte: u8) -> Option<Context>
     requires { read < usize.MAX }
-    ensures step { (p : Place) → option_map (state_of p) result ≡ (if due == byte then Some (end_of p (read + 1)) else None) }
-    ensures fits { (p : Place) → is_inside p ≡ true → IfSome result (Fits p) }
+    ensures state { (p : Nesting) → option_map (state_of p) result ≡ (if due == byte then Some (end_of p (read + 1)) else None) }
+    ensures fits { (p : Nesting) → is_inside p ≡ true → IfSome result (Admits p) }
 {
     if due != byte {
         return None;
     }
-    Some(Mode::EndName { read: read + 1 })
+    Some(Context::EndName { read: read + 1 })
 }
 
 /// A byte behind the name in an end tag.
-fn end_space(tree: &mut OpenTree, read: usize, at: u64, byte: u8) -> Option<Mode>
+fn end_space(tree: &mut OpenTree, read: usize, at: u64, byte: u8) -> Option<Context>
     requires belongs { Belongs tree.old }
-    requires inside { is_inside (place_of tree.old) ≡ true }
-    requires whole { end_of (place_of tree.old) read ≡ end_state (place_of tree.old) }
-    ensures step { option_map (state_of (place_of tree.new)) result ≡ step (end_state (place_of tree.old)) at byte }
-    ensures fits { IfSome result (Fits (place_of tree.new)) }
+    requires inside { is_inside (nesting_of tree.old) ≡ true }
+    requires whole { end_of (nesting_of tree.old) read ≡ end_state (nesting_of tree.old) }
+    ensures state { option_map (state_of (nesting_of tree.new)) result ≡ next_state (end_state (nesting_of tree.old)) at byte }
+    ensures fits { IfSome result (Admits (nesting_of tree.new)) }
     ensures belongs { Belongs tree.new }
 {
     if is_space_byte(byte) {
-        return Some(Mode::EndName { read });
+        return Some(Context::EndName { read });
     }
     if byte == b'>' {
         tree.end();
-        return Some(Mode::Item);
+        return Some(Context::Between);
     }
     None
 }
 
 /// A byte of an end tag, behind so many bytes of its name.
-pub(crate) fn end_name(tree: &mut OpenTree, read: usize, at: u64, byte: u8) -> Option<Mode>
+pub(crate) fn end_name(tree: &mut OpenTree, read: usize, at: u64, byte: u8) -> Option<Context>
     requires belongs { Belongs tree.old }
-    requires inside { is_inside (place_of tree.old) ≡ true }
-    ensures step { option_map (state_of (place_of tree.new)) result ≡ step (end_of (place_of tree.old) read) at byte }
-    ensures fits { IfSome result (Fits (place_of tree.new)) }
+    requires inside { is_inside (nesting_of tree.old) ≡ true }
+    ensures state { option_map (state_of (nesting_of tree.new)) result ≡ next_state (end_of (nesting_of tree.old) read) at byte }
+    ensures fits { IfSome result (Admits (nesting_of tree.new)) }
     ensures belongs { Belongs tree.new }
 {
     match tree.name_byte(read) {

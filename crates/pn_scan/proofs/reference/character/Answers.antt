@@ -1,7 +1,7 @@
 use Rattle.std.proofs.Common.{sym, ap, ◌∙◌, ◌++◌, ◌≡◌}
 use Rattle.std.specs.Char.{encode_utf8}
 use Rattle.pn_text.specs.Characters.{utf8_of}
-use Rattle.pn_scan.proofs.StepLemmas.{utf8_is}
+use Rattle.pn_scan.proofs.NextStateLemmas.{utf8_is}
 use Rattle.pn_scan.proofs.reference.character.Goals as goal
 
 pub returns : goal.returns

@@ -1,5 +1,5 @@
 use Rattle.std.proofs.Common.{sym, ◌∙◌}
-use Rattle.pn_scan.proofs.StepLemmas.{front_is}
+use Rattle.pn_scan.proofs.NextStateLemmas.{front_is}
 use Rattle.pn_scan.proofs.reference.is_front.Goals as goal
 
 pub returns : goal.returns

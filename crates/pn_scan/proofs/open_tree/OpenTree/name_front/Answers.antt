@@ -1,6 +1,6 @@
 use Rattle.std.proofs.Common.{List, ℕ, ◌-◌, length, drop, ap, ◌∙◌}
 use Rattle.std.specs.List.{slice_get}
-use Rattle.pn_scan.specs.Plain.{due_front}
+use Rattle.pn_scan.specs.Ordinary.{due_front}
 use Rattle.pn_scan.proofs.OpenTreeLemmas.{last_name, some_is}
 use Rattle.pn_scan.proofs.open_tree.OpenTree.name_front.Goals as goal
 

@@ -1,11 +1,11 @@
 use Rattle.std.proofs.Common.{◌-◌, refl, ap}
 use Rattle.pn_outside.specs.declared.limits.TheConstants.{BYTES}
 use Rattle.pn_scan.specs.Open.{open_bytes}
-use Rattle.pn_scan.proofs.PlainLemmas.{name_read}
+use Rattle.pn_scan.proofs.OrdinaryLemmas.{name_read}
 use Rattle.pn_scan.proofs.scanner.Scanner.read_name.Goals as goal
 
 pub returns-clause-read : goal.returns-clause-read
 returns-clause-read c b r =
     let s = c.args.self.now in
-    name_read s.tree s.mode s.opened s.count (BYTES - s.count) c.in-EndName.read c.name_front-size.result b c.args.piece.now c.front_of.result.now r (ap open_bytes c.in-Nothing.is)
+    name_read s.tree s.context s.opened s.count (BYTES - s.count) c.in-EndName.read c.name_front-size.result b c.args.piece.now c.front_of.result.now r (ap open_bytes c.in-Nothing.is)
     c.in-EndName.is refl c.front_of.ensures c.name_front-size.ensures.value

@@ -1,5 +1,0 @@
-use Rattle.pn_markup.proofs.DocumentAgreeLemmas.{one_tree}
-use Rattle.pn_markup.proofs.laws.a_text_spells_one_tree.Goals as goal
-
-pub returns : goal.returns
-returns c = one_tree

@@ -1,5 +1,0 @@
-use Rattle.pn_scan.proofs.ReachLemmas.{one_tree}
-use Rattle.pn_scan.proofs.laws.one_tree.Goals as goal
-
-pub returns : goal.returns
-returns c = one_tree

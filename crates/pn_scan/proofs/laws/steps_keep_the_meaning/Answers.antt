@@ -1,5 +1,0 @@
-use Rattle.pn_scan.proofs.FedLemmas.{fed_start, fed_more}
-use Rattle.pn_scan.proofs.laws.steps_keep_the_meaning.Goals as goal
-
-pub returns : goal.returns
-returns c = record { start = fed_start; more = fed_more }

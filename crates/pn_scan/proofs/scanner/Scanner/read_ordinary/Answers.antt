@@ -1,0 +1,14 @@
+use Rattle.std.proofs.Common.{◌-◌, refl, ap}
+use Rattle.pn_outside.specs.declared.limits.TheConstants.{BYTES}
+use Rattle.pn_scan.specs.Open.{open_bytes}
+use Rattle.pn_scan.specs.Nestings.{nesting_of}
+use Rattle.pn_scan.proofs.OrdinaryLemmas.{ordinary_read}
+use Rattle.pn_scan.proofs.scanner.Scanner.read_ordinary.Goals as goal
+
+pub returns-clause-read : goal.returns-clause-read
+returns-clause-read c b r =
+    let s = c.args.self.now in
+    let p = nesting_of s.tree in
+    let fits = c.begin_run.ensures.fits r.fits in
+    ordinary_read s.tree s.context c.begin_run.new.context c.take_ordinary.new.context s.opened s.count (BYTES - s.count) c.in_ok-ordinary.ordinary b c.args.piece.now c.front_of.result.now r
+    (ap open_bytes c.in-Nothing.is) c.begin_run.ensures.state fits refl c.front_of.ensures c.in_ok-ordinary.ensures.front (c.in_ok-ordinary.ensures.state p) (c.in_ok-ordinary.ensures.fits p fits)

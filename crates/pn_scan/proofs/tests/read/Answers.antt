@@ -1,5 +1,0 @@
-use Rattle.std.proofs.Common.{◌++◌}
-use Rattle.pn_scan.proofs.tests.read.Goals as goal
-
-pub loop-piece-preserved : goal.loop-piece-preserved
-loop-piece-preserved c = let before = c.loop-piece.invariant in (before.0 ++ c.in-Some.piece.now, c.feed.ensures.read before.0 before.1)

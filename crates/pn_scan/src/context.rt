@@ -1,0 +1,172 @@
+//! What is under way between two bytes.
+
+/// How many brackets a run ends in, two at most.
+#[derive(Clone, Copy)]
+pub(crate) enum Brackets {
+    Zero,
+    One,
+    Two,
+}
+
+/// A part of an XML declaration.
+#[derive(Clone, Copy)]
+pub(crate) enum Part {
+    Version,
+    Encoding,
+    Standalone,
+}
+
+/// Which parts of an XML declaration may still come: all from the version on, those behind the
+/// version, the last, none.
+#[derive(Clone, Copy)]
+pub(crate) enum Stage {
+    All,
+    FromEncoding,
+    FromStandalone,
+    Nothing,
+}
+
+/// What a reference stands in: content, or the value of an attribute as far as it was read.
+#[derive(Drop)]
+pub(crate) enum Holder {
+    Content,
+    Value {
+        name: Vec<u8>,
+        quote: u8,
+        value: Vec<u8>,
+    },
+}
+
+/// What follows bytes that are due.
+#[derive(Clone, Copy)]
+pub(crate) enum Then {
+    /// The document begins, behind a byte order mark.
+    First,
+    /// The next piece of content.
+    Between,
+    /// The text of a CDATA section.
+    Section,
+    /// The text of a comment.
+    Comment,
+    /// The `=` of a part of the declaration.
+    BeforeEquals(Part),
+}
+
+/// What is under way, as far as it was read.
+#[derive(Drop)]
+pub(crate) enum Context {
+    /// Nothing was read.
+    Start,
+    /// A byte order mark was read.
+    First,
+    /// Between two pieces of content.
+    Between,
+    /// A run of characters: what it stands for, the brackets that it ends in, whether in CR.
+    Run {
+        text: Vec<u8>,
+        brackets: Brackets,
+        cr: bool,
+    },
+    /// Behind a `<` at this offset; `first` where it may begin a declaration.
+    Markup {
+        first: bool,
+        begin: u64,
+    },
+    /// Behind `<!`.
+    Bang,
+    /// A comment; whether behind a `-`.
+    Comment {
+        dash: bool,
+    },
+    /// The name of a processing instruction, or of what may be a declaration.
+    Target {
+        first: bool,
+        name: Vec<u8>,
+    },
+    /// The text of a processing instruction; whether behind a `?`.
+    Instruction {
+        question: bool,
+    },
+    /// A CDATA section, without the brackets that it ends in, of which a third is text.
+    Section {
+        text: Vec<u8>,
+        brackets: Brackets,
+        cr: bool,
+    },
+    /// The name of a tag, whose `<` has this offset.
+    Name {
+        begin: u64,
+        name: Vec<u8>,
+    },
+    /// A tag behind its name or an attribute; whether behind white space.
+    Tag {
+        spaced: bool,
+    },
+    /// The name of an attribute.
+    Attribute {
+        name: Vec<u8>,
+    },
+    /// Behind the name of an attribute.
+    BeforeEquals {
+        name: Vec<u8>,
+    },
+    /// Behind the `=` of an attribute.
+    BehindEquals {
+        name: Vec<u8>,
+    },
+    /// The value of an attribute in these quotes: what it stands for, and whether it ends in CR.
+    Value {
+        name: Vec<u8>,
+        quote: u8,
+        value: Vec<u8>,
+        cr: bool,
+    },
+    /// Behind `&`.
+    Reference {
+        holder: Holder,
+    },
+    /// The name of an entity.
+    Entity {
+        holder: Holder,
+        part: Vec<u8>,
+    },
+    /// Behind `&#`.
+    NumberSign {
+        holder: Holder,
+    },
+    /// A number to a base; `any` where a digit was read.
+    Number {
+        holder: Holder,
+        base: u32,
+        number: u32,
+        any: bool,
+    },
+    /// These bytes are due.
+    Due {
+        left: &'static [u8],
+        then: Then,
+    },
+    /// In an end tag, behind so many bytes of its name.
+    EndName {
+        read: usize,
+    },
+    /// The declaration; whether behind white space.
+    Declaration {
+        stage: Stage,
+        spaced: bool,
+    },
+    /// Behind the word of a part.
+    BeforePartEquals {
+        part: Part,
+    },
+    /// Behind the `=` of a part.
+    BehindPartEquals {
+        part: Part,
+    },
+    /// The value of a part in these quotes.
+    PartValue {
+        part: Part,
+        quote: u8,
+        value: Vec<u8>,
+    },
+}

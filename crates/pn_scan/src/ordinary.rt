@@ -1,0 +1,167 @@
+//! Bytes that stand for themselves, many at once.
+
+ghost use Rattle.std.specs.Prelude.{◌≡◌, ◌≤◌, ◌++◌, length, take, IfOk};
+ghost use Rattle.std.specs.List.{prefix_len};
+ghost use Rattle.pn_scan.specs.State.{Nesting};
+ghost use Rattle.pn_scan.specs.Contexts.{state_of, Admits};
+ghost use Rattle.pn_scan.specs.Ordinary.{is_ascii, is_ordinary_text, is_ordinary_name, is_ordinary_value, is_ordinary_but, ordinary_text, ordinary_value, ordinary_but, ordinary_space, due_front, is_ordinary, behind_ordinary};
+
+use crate::bytes::{continues_name, is_space_byte};
+use crate::context::{Brackets, Context};
+use std::alloc::AllocError;
+
+/// A character of one byte, but CR.
+fn is_ascii_byte(byte: u8) -> bool
+    ensures { result ≡ is_ascii byte }
+{
+    byte == b'\t' || byte == b'\n' || 0x20 <= byte && byte <= 0x7F
+}
+
+/// A byte that stands for itself in content.
+fn is_text_byte(byte: u8) -> bool
+    ensures { result ≡ is_ordinary_text byte }
+{
+    is_ascii_byte(byte) && !(byte == b'<' || byte == b'&' || byte == b'>' || byte == b']')
+}
+
+/// A byte that stands for itself in a name.
+fn is_name_byte(byte: u8) -> bool
+    ensures { result ≡ is_ordinary_name byte }
+{
+    byte < 0x80 && continues_name(byte)
+}
+
+/// A byte that stands for itself in a value in these quotes.
+fn is_value_byte(quote: u8, byte: u8) -> bool
+    ensures { result ≡ is_ordinary_value quote byte }
+{
+    0x20 <= byte && byte <= 0x7F && !(byte == quote || byte == b'<' || byte == b'&')
+}
+
+/// How many bytes at the front of a piece stand for themselves in content behind these brackets,
+/// in CR or not.
+#[tactic(auto, using(crate::proofs::OrdinaryLemmas::never_any, crate::proofs::OrdinaryLemmas::text_none))]
+fn text_front(brackets: Brackets, cr: bool, piece: &[u8]) -> usize
+    ensures value { result ≡ prefix_len (ordinary_text brackets cr) piece.now }
+    ensures within { result ≤ length piece.now }
+{
+    if cr {
+        return 0;
+    }
+    match brackets {
+        Brackets::Zero => piece.iter().take_while(|byte| is_text_byte(**byte)).count(),
+        _ => 0,
+    }
+}
+
+/// How many bytes at the front of a piece stand for themselves in a name.
+fn name_front(piece: &[u8]) -> usize
+    ensures value { result ≡ prefix_len is_ordinary_name piece.now }
+    ensures within { result ≤ length piece.now }
+{
+    piece.iter().take_while(|byte| is_name_byte(**byte)).count()
+}
+
+/// How many bytes at the front of a piece stand for themselves in a value in these quotes, behind
+/// a CR or not.
+#[tactic(auto, using(crate::proofs::OrdinaryLemmas::value_none))]
+fn value_front(quote: u8, cr: bool, piece: &[u8]) -> usize
+    ensures value { result ≡ prefix_len (ordinary_value quote cr) piece.now }
+    ensures within { result ≤ length piece.now }
+{
+    if cr {
+        return 0;
+    }
+    piece
+        .iter()
+        .take_while(|byte| is_value_byte(quote, **byte))
+        .count()
+}
+
+/// How many bytes at the front of a piece stand for themselves where this byte may begin an end,
+/// behind one or not.
+#[tactic(auto, using(crate::proofs::OrdinaryLemmas::but_none))]
+fn front_before(mark: u8, behind: bool, piece: &[u8]) -> usize
+    ensures value { result ≡ prefix_len (ordinary_but mark behind) piece.now }
+    ensures within { result ≤ length piece.now }
+{
+    if behind {
+        return 0;
+    }
+    piece
+        .iter()
+        .take_while(|byte| is_ascii_byte(**byte) && **byte != mark)
+        .count()
+}
+
+/// How many bytes at the front of a piece are white space, behind white space or not.
+#[tactic(auto, using(crate::proofs::OrdinaryLemmas::space_none))]
+fn space_front(spaced: bool, piece: &[u8]) -> usize
+    ensures value { result ≡ prefix_len (ordinary_space spaced) piece.now }
+    ensures within { result ≤ length piece.now }
+{
+    if !spaced {
+        return 0;
+    }
+    piece
+        .iter()
+        .take_while(|byte| is_space_byte(**byte))
+        .count()
+}
+
+/// How many bytes at the front of a piece are those that are due of a name.
+pub(crate) fn due_front(due: &[u8], piece: &[u8]) -> usize
+    ensures value { result ≡ due_front due.now piece.now }
+    ensures of_due { result ≤ length due.now }
+    ensures within { result ≤ length piece.now }
+{
+    let mut at = 0;
+    while at < due.len() && at < piece.len() {
+        if due[at] != piece[at] || !is_name_byte(piece[at]) {
+            return at;
+        }
+        at += 1;
+    }
+    at
+}
+
+/// Puts the front of a piece to a text.
+fn put_front(text: &mut Vec<u8>, piece: &[u8], size: usize) -> Result<usize, AllocError>
+    requires { size ≤ length piece.now }
+    ensures size { IfOk result (λ n. n ≡ size) }
+    ensures text { IfOk result (λ n. text.new.items ≡ text.old.items ++ take n piece.now) }
+{
+    text.extend_from_slice(&piece[..size])?;
+    Ok(size)
+}
+
+/// Takes the bytes at the front of a piece that stand for themselves in a context; answers how
+/// many.
+#[tactic(auto, using(crate::proofs::OrdinaryLemmas::behind_none, crate::proofs::OrdinaryLemmas::never_any))]
+pub(crate) fn take_ordinary(context: &mut Context, piece: &[u8]) -> Result<usize, AllocError>
+    ensures front { IfOk result (λ n. n ≡ prefix_len (is_ordinary context.old) piece.now) }
+    ensures within { IfOk result (λ n. n ≤ length piece.now) }
+    ensures state { IfOk result (λ n. (p : Nesting) → state_of p context.new ≡ behind_ordinary (state_of p context.old) (take n piece.now)) }
+    ensures fits { IfOk result (λ n. (p : Nesting) → Admits p context.old → Admits p context.new) }
+{
+    match context {
+        Context::Run { text, brackets, cr } => {
+            put_front(text, piece, text_front(*brackets, *cr, piece))
+        }
+        Context::Section { text, brackets, cr } => {
+            put_front(text, piece, text_front(*brackets, *cr, piece))
+        }
+        Context::Name { name, .. } => put_front(name, piece, name_front(piece)),
+        Context::Tag { spaced } => Ok(space_front(*spaced, piece)),
+        Context::Attribute { name } => put_front(name, piece, name_front(piece)),
+        Context::Value {
+            quote,
+            value,
+            cr,
+            ..
+        } => put_front(value, piece, value_front(*quote, *cr, piece)),
+        Context::Comment { dash } => Ok(front_before(b'-', *dash, piece)),
+        Context::Instruction { question } => Ok(front_before(b'?', *question, piece)),
+        _ => Ok(0),
+    }
+}

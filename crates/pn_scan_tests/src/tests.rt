@@ -1,0 +1,364 @@
+ghost use Rattle.std.specs.Prelude.{◌<◌, ℕ, List};
+ghost use Rattle.pn_scan.specs.Reading.{HasRead};
+
+use pn_outside::MemorySink;
+use pn_scan::{ScanFault, Scanner};
+use pn_tree::{Tree, put_tree};
+use std::alloc::{AllocError, Global};
+use std::process::Abort;
+use std::test::Fail;
+
+/// Feeds bytes in pieces of this size.
+fn feed_all(scanner: &mut Scanner, bytes: &[u8], size: usize) -> Result<(), ScanFault>
+    requires size { 0 < size }
+    requires read { (b : List ℕ) × HasRead scanner.old b }
+    ensures { (b : List ℕ) × HasRead scanner.new b }
+{
+    for piece in bytes.chunks(size) {
+        scanner.feed(piece)?;
+    }
+    Ok(())
+}
+
+/// Reads bytes in pieces of this size.
+fn read(alloc: Global, bytes: &[u8], size: usize) -> Result<Tree, ScanFault>
+    requires { 0 < size }
+{
+    let mut scanner = Scanner::new(alloc);
+    feed_all(&mut scanner, bytes, size)?;
+    scanner.finish()
+}
+
+/// The offset at which bytes break in pieces of this size, or `None` where they are a document.
+fn break_of(alloc: Global, bytes: &[u8], size: usize) -> Result<Option<u64>, AllocError>
+    requires { 0 < size }
+{
+    match read(alloc, bytes, size) {
+        Ok(_) => Ok(None),
+        Err(ScanFault::Broken(at)) => Ok(Some(at)),
+        Err(ScanFault::TooLong) => Ok(Some(u64::MAX)),
+        Err(ScanFault::Memory(error)) => Err(error),
+    }
+}
+
+/// Bytes break at this offset, whole and in small pieces.
+fn breaks_at(rt: &impl Abort, alloc: Global, bytes: &[u8], at: u64) -> Result<(), Fail> {
+    for size in [1usize, 2, 3, 7, 1000] {
+        assert_eq!(rt;
+            break_of(alloc, bytes, size)?,
+            Some(at),
+            "{bytes:?} by {size}"
+        );
+    }
+    Ok(())
+}
+
+fn all_break(rt: &impl Abort, alloc: Global, rows: &[(&str, u64)]) -> Result<(), Fail> {
+    for (text, at) in rows {
+        breaks_at(rt, alloc, text.as_bytes(), *at)?;
+    }
+    Ok(())
+}
+
+fn all_bytes_break(rt: &impl Abort, alloc: Global, rows: &[(&[u8], u64)]) -> Result<(), Fail> {
+    for (bytes, at) in rows {
+        breaks_at(rt, alloc, bytes, *at)?;
+    }
+    Ok(())
+}
+
+/// Whether what is written of a tree are these bytes.
+fn is_written(sink: &mut MemorySink, tree: &Tree, want: &[u8]) -> bool {
+    put_tree(tree, sink).is_ok() && sink.bytes() == want
+}
+
+/// The canonical text of a tree is this one.
+fn has_text(rt: &impl Abort, alloc: Global, tree: &Tree, want: &str) -> Result<(), Fail> {
+    let mut sink = MemorySink::new(alloc, want.len(), Vec::new(alloc))?;
+    let same = is_written(&mut sink, tree, want.as_bytes());
+    assert!(rt; same, "{want}");
+    Ok(())
+}
+
+/// The canonical text of the tree that bytes spell, in pieces of this size.
+fn spells(rt: &impl Abort, alloc: Global, bytes: &[u8], size: usize, want: &str) -> Result<(), Fail>
+    requires { 0 < size }
+{
+    match read(alloc, bytes, size) {
+        Ok(tree) => has_text(rt, alloc, &tree, want),
+        Err(_) => {
+            assert!(rt; false, "{bytes:?} by {size}");
+            Ok(())
+        }
+    }
+}
+
+fn all_spell_so(rt: &impl Abort, alloc: Global, bytes: &[u8], want: &str) -> Result<(), Fail> {
+    for size in [1usize, 2, 3, 7, 1000] {
+        spells(rt, alloc, bytes, size, want)?;
+    }
+    Ok(())
+}
+
+/// The canonical text of a document with this root.
+fn canonical(alloc: Global, root: &str) -> Result<String, AllocError> {
+    let mut text = String::from_str(alloc, "<?xml version=\"1.0\" encoding=\"UTF-8\"?>\n")?;
+    text.push_str(root)?;
+    text.push_str("\n")?;
+    Ok(text)
+}
+
+/// Bytes spell the tree of this canonical text of a root, whole and in small pieces.
+fn spell(rt: &impl Abort, alloc: Global, bytes: &[u8], root: &str) -> Result<(), Fail> {
+    let want = canonical(alloc, root)?;
+    all_spell_so(rt, alloc, bytes, want.as_str())
+}
+
+fn all_spell(rt: &impl Abort, alloc: Global, rows: &[(&str, &str)]) -> Result<(), Fail> {
+    for (text, root) in rows {
+        spell(rt, alloc, text.as_bytes(), root)?;
+    }
+    Ok(())
+}
+
+/// Each front of a document that is none breaks at its end.
+fn fronts_break(rt: &impl Abort, alloc: Global, text: &str) -> Result<(), Fail> {
+    let bytes = text.as_bytes();
+    for length in 0..bytes.len() {
+        assert_eq!(rt;
+            break_of(alloc, &bytes[..length], 1000)?,
+            Some(length as u64),
+            "{text}"
+        );
+    }
+    Ok(())
+}
+
+// Every class of error in UTF-8, and the characters that no document has.
+const CHARACTERS: [(&[u8], u64); 18] = [
+    (b"<a>\xC0\x80</a>", 3),
+    (b"<a>\xC1\xBF</a>", 3),
+    (b"<a>\xE0\x80\x80</a>", 4),
+    (b"<a>\xF0\x80\x80\x80</a>", 4),
+    (b"<a>\xED\xA0\x80</a>", 4),
+    (b"<a>\xF4\x90\x80\x80</a>", 4),
+    (b"<a>\xF5\x80\x80\x80</a>", 3),
+    (b"<a>\xEF\xBF\xBE</a>", 5),
+    (b"<a>\xEF\xBF\xBF</a>", 5),
+    (b"<a>\x80</a>", 3),
+    (b"<a>\xC3</a>", 4),
+    (b"<a>\xE2\x82</a>", 5),
+    (b"<a>\xF0\x9F\x98</a>", 6),
+    (b"<a>\xE2\x82", 5),
+    (b"<a>\0</a>", 3),
+    (b"<a>\x1F</a>", 3),
+    (b"\xEF\xBB<a/>", 2),
+    (b"\xEF\xBB\xBF\xEF\xBB\xBF<a/>", 3),
+];
+
+const DECLARATIONS: [(&str, u64); 16] = [
+    ("<?xml encoding=\"UTF-8\"?><a/>", 6),
+    ("<?xml version=\"1.\"?><a/>", 17),
+    ("<?xml version=\"2.0\"?><a/>", 15),
+    ("<?xml version=\"1.0\"encoding=\"UTF-8\"?><a/>", 19),
+    (
+        "<?xml version=\"1.0\" standalone=\"no\" encoding=\"UTF-8\"?><a/>",
+        36,
+    ),
+    ("<?xml version=\"1.0\" standalone=\"maybe\"?><a/>", 32),
+    ("<?xml version=\"1.0\" encoding=\"UTF-16\"?><a/>", 34),
+    (" <?xml version=\"1.0\"?><a/>", 6),
+    ("<?xml version=\"1.0\"?><?xml version=\"1.0\"?><a/>", 26),
+    ("<?xml?><a/>", 5),
+    ("<?XML version=\"1.0\"?><a/>", 5),
+    ("<?xml version=\"1.0\"? ><a/>", 20),
+    ("<!-- --><?xml version=\"1.0\"?><a/>", 13),
+    ("<?xml version='1.0\"?><a/>", 18),
+    ("<?xml version=1.0?><a/>", 14),
+    ("<?xml version \"1.0\"?><a/>", 14),
+];
+
+const MARKUP: [(&str, u64); 24] = [
+    ("", 0),
+    ("x<a/>", 0),
+    ("<!DOCTYPE a><a/>", 2),
+    ("<a><!-- -- --></a>", 10),
+    ("<a><!-- --->", 10),
+    ("<!x", 2),
+    ("<!-x", 3),
+    ("<? a?><a/>", 2),
+    ("<?a?x?><a/>", 4),
+    ("<a><?xml ?></a>", 8),
+    ("<a>]]></a>", 5),
+    ("<a>]]]></a>", 6),
+    ("<a><![CDATA[]]>]]></a>", 17),
+    ("<a><![CDAT [", 10),
+    ("<a/><a/>", 5),
+    ("<a/>x", 4),
+    ("<a/>&#32;", 4),
+    ("<a/><![CDATA[]]>", 6),
+    ("<a/><?xml version=\"1.0\"?>", 9),
+    ("<a></b>", 5),
+    ("<ab></a>", 7),
+    ("<a></ab>", 6),
+    ("<a></ a>", 5),
+    ("<a/></a>", 5),
+];
+
+const TAGS: [(&str, u64); 14] = [
+    ("< a/>", 1),
+    ("<1/>", 1),
+    ("<a /b>", 4),
+    ("<a b/>", 4),
+    ("<a b=x>", 5),
+    ("<a b=\"<\"/>", 6),
+    ("<a b=\"1\"c=\"2\"/>", 8),
+    ("<a b=\"1\" bb=\"2\" b = \"3\"/>", 17),
+    ("<place id=\"a\" id=\"b\"/>", 16),
+    ("<a>&;</a>", 4),
+    ("<a>&foo;</a>", 4),
+    ("<a>&ltx;</a>", 6),
+    ("<a>&quo;</a>", 7),
+    ("<a b=\"&lt\"/>", 9),
+];
+
+const NUMBERS: [(&str, u64); 11] = [
+    ("<a>&#;</a>", 5),
+    ("<a>&#x;</a>", 6),
+    ("<a>&#xg;</a>", 6),
+    ("<a>&#X41;</a>", 5),
+    ("<a>&#a;</a>", 5),
+    ("<a>&#0;</a>", 6),
+    ("<a>&#xD800;</a>", 10),
+    ("<a>&#xD83D;&#xDE00;</a>", 10),
+    ("<a>&#xFFFE;</a>", 10),
+    ("<a>&#x110000;</a>", 11),
+    ("<a>&#1114112;</a>", 11),
+];
+
+const TREES: [(&str, &str); 15] = [
+    (
+        "<place id=\"a\"><toolspecific tool=\"d\" version=\"1\"><x:k v='1&lt;2'></x:k> </toolspecific></place>",
+        "<place id=\"a\"><toolspecific tool=\"d\" version=\"1\"><x:k v=\"1&lt;2\"/> </toolspecific></place>",
+    ),
+    ("<a></a>", "<a/>"),
+    ("\u{FEFF}<a  />\n<!-- -><?p ? >?>-->", "<a/>"),
+    (
+        "<?xml version='1.0'?>\r\n<?p?><a b='1' c=\"&#x9;&quot;x\ty\r\nz'\"\n/>",
+        "<a b=\"1\" c=\"&#9;&quot;x y z'\"/>",
+    ),
+    (
+        "<?xml\tversion=\"1.10\" encoding = 'us-ASCII' standalone='yes' ?><a/>",
+        "<a/>",
+    ),
+    ("<?xml-x y?><a/>", "<a/>"),
+    ("<a>x\r\ny\rz\n\r\r\n</a>", "<a>x\ny\nz\n\n\n</a>"),
+    ("<a>&#13;&#xD;\n</a>", "<a>&#13;&#13;\n</a>"),
+    ("<a>x\r<![CDATA[\n]]></a>", "<a>x\n\n</a>"),
+    (
+        "<a>x<!-- -->y<![CDATA[<z>]]>&amp;<?p?>w</a>",
+        "<a>xy&lt;z&gt;&amp;w</a>",
+    ),
+    ("<a><![CDATA[]]]]]></a>", "<a>]]]</a>"),
+    ("<a>]]<!---->&gt;]]<![CDATA[>]]></a>", "<a>]]&gt;]]&gt;</a>"),
+    (
+        "<a>é&#x10FFFF;&#128512;<é _1='&apos;é'/></a>",
+        "<a>é\u{10FFFF}\u{1F600}<é _1=\"'é\"/></a>",
+    ),
+    ("<x:k v='1&lt;2'></x:k > ", "<x:k v=\"1&lt;2\"/>"),
+    (
+        "<a><b i='1'>t</b>\n<b i='2'><c/></b></a>",
+        "<a><b i=\"1\">t</b>\n<b i=\"2\"><c/></b></a>",
+    ),
+];
+
+#[test]
+fn characters_break_where_no_document_goes_on(rt: HostRuntime) -> Result<(), Fail> {
+    all_bytes_break(&rt, rt.alloc(), &CHARACTERS)
+}
+
+#[test]
+fn declarations_break_where_no_document_goes_on(rt: HostRuntime) -> Result<(), Fail> {
+    all_break(&rt, rt.alloc(), &DECLARATIONS)
+}
+
+#[test]
+fn markup_breaks_where_no_document_goes_on(rt: HostRuntime) -> Result<(), Fail> {
+    all_break(&rt, rt.alloc(), &MARKUP)?;
+    all_break(&rt, rt.alloc(), &TAGS)?;
+    all_break(&rt, rt.alloc(), &NUMBERS)
+}
+
+#[test]
+fn documents_spell_their_trees(rt: HostRuntime) -> Result<(), Fail> {
+    all_spell(&rt, rt.alloc(), &TREES)
+}
+
+#[test]
+fn fronts_of_documents_break_at_their_ends(rt: HostRuntime) -> Result<(), Fail> {
+    let alloc = rt.alloc();
+    fronts_break(
+        &rt,
+        alloc,
+        "\u{FEFF}<?xml version=\"1.0\" encoding='UTF-8'?><!-- é --><?p q?><a/>",
+    )?;
+    fronts_break(
+        &rt,
+        alloc,
+        "<a é=\"1&#xA;&lt;\" b=''>t<b>]]</b><![CDATA[]>]]>&amp;</a>",
+    )
+}
+
+/// As many start tags as this, one in another, and what follows them.
+fn nested(alloc: Global, levels: usize, last: &str) -> Result<String, AllocError> {
+    let mut text = String::new(alloc);
+    for _level in 0..levels {
+        text.push_str("<a>")?;
+    }
+    text.push_str(last)?;
+    Ok(text)
+}
+
+/// As many start tags as this around an empty element break at this offset.
+fn deep_breaks_at(rt: &impl Abort, alloc: Global, levels: usize, at: u64) -> Result<(), Fail> {
+    let text = nested(alloc, levels, "<b/>")?;
+    breaks_at(rt, alloc, text.as_bytes(), at)
+}
+
+#[test]
+fn at_most_256_elements_are_open(rt: HostRuntime) -> Result<(), Fail> {
+    deep_breaks_at(&rt, rt.alloc(), 255, 769)?;
+    deep_breaks_at(&rt, rt.alloc(), 256, 769)
+}
+
+#[test]
+fn the_offset_counts_a_byte_order_mark(rt: HostRuntime) -> Result<(), Fail> {
+    let Ok(tree) = read(rt.alloc(), "\u{FEFF} <a/>".as_bytes(), 7) else {
+        assert!(&rt; false);
+        return Ok(());
+    };
+    assert_eq!(&rt; tree.root().at(), 4);
+    Ok(())
+}
+
+fn is_break_at_five(answer: Result<(), ScanFault>) -> bool {
+    matches!(answer, Err(ScanFault::Broken(5)))
+}
+
+/// Whether a piece is answered by a break at 5.
+fn breaks_at_five(scanner: &mut Scanner, piece: &[u8]) -> bool
+    requires { (b : List ℕ) × HasRead scanner.old b }
+    ensures { (b : List ℕ) × HasRead scanner.new b }
+{
+    is_break_at_five(scanner.feed(piece))
+}
+
+#[test]
+fn a_fault_is_answered_again(rt: HostRuntime) -> Result<(), Fail> {
+    let mut scanner = Scanner::new(rt.alloc());
+    let found = breaks_at_five(&mut scanner, b"<a></b>");
+    let again = breaks_at_five(&mut scanner, b"") && breaks_at_five(&mut scanner, b"<a/>");
+    let ended = matches!(scanner.finish(), Err(ScanFault::Broken(5)));
+    assert!(&rt; found && again && ended);
+    Ok(())
+}
