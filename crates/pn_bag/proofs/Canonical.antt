@@ -31,7 +31,7 @@ module _ {K : Type 0} {cmp : K → K → Ordering} (total : IsTotalOrder cmp) wh
   )
 
   -- what holds of each key, and of one more
-  every_key-inserted : (P : K → Type 0) (xs : List (K × ℕ)) (new : K × ℕ) → P new.0 → Every (λ e. P e.0) xs → Every (λ e. P e.0) (inserted cmp xs new)
+  pub every_key-inserted : (P : K → Type 0) (xs : List (K × ℕ)) (new : K × ℕ) → P new.0 → Every (λ e. P e.0) xs → Every (λ e. P e.0) (inserted cmp xs new)
   every_key-inserted P [] new p all = (p, tt)
   every_key-inserted P (x ∷ xs) new p all = step (cmp new.0 x.0) (every_key-inserted P xs new p all.1)
     where

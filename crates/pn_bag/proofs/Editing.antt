@@ -1,18 +1,18 @@
 -- What an edit of entries at a place does to the counts and to the order.
-use Rattle.std.proofs.Common.{◌≡◌, ℕ, zero, suc, ◌+◌, ◌-◌, ◌<◌, ◌≤◌, List, [], ◌∷◌, ◌++◌, length, get_or, set, take, drop, refl, sym, ap, ◌∙◌, subst, arith}
+use Rattle.std.proofs.Common.{◌≡◌, ℕ, zero, suc, ◌+◌, ◌-◌, ◌<◌, ◌≤◌, List, [], ◌∷◌, ◌++◌, length, get_or, set, take, drop, refl, sym, ap, subst, arith}
 use Rattle.std.specs.Cmp.{IsTotalOrder}
 use Rattle.std.specs.List.{insert}
 use Rattle.std.specs.Ordering.{match_ordering}
 use Rattle.std.specs.declared.cmp.Ordering.{Ordering}
 use Rattle.std.specs.declared.cmp.Ordering.TheVariants.{Less, Equal, Greater}
 use Rattle.std.proofs.lemmas.Cmp.{alike_right}
-use Rattle.std.proofs.lemmas.List.{take-append-drop, get_or_default}
+use Rattle.std.proofs.lemmas.List.{take-append-drop}
 use Rattle.pn_bag.specs.declared.TheConstants.{MAX_COUNT}
 use Rattle.pn_bag.specs.Bag.{IsBag}
 use Rattle.pn_bag.specs.Counts.{count_in, count_of, Every, IsRising}
 use Rattle.pn_bag.specs.Places.{IsAt, IsGapFor}
 use Rattle.pn_bag.proofs.Everywhere.{every_at, every_both, every_set, every-append, every_left, every_right}
-use Rattle.pn_bag.proofs.Counting.{count_of-append, count_of-set}
+use Rattle.pn_bag.proofs.Counting.{count_of-set}
 
 -- an entry's count in two parts
 pub count_in-add : {K : Type 0} (cmp : K → K → Ordering) (key q : K) (m n : ℕ) → count_in cmp (key, m + n) q ≡ count_in cmp (key, m) q + count_in cmp (key, n) q
@@ -60,12 +60,6 @@ module _ {K : Type 0} (cmp : K → K → Ordering) where
       let below : cmp y.0 (get_or xs n d).0 ≡ Less = every_at (λ z. cmp y.0 z.0 ≡ Less) xs n d (omega arith) r.0 in
       (every_set (λ z. cmp y.0 z.0 ≡ Less) xs n x r.0 (subst (λ k. cmp y.0 k ≡ Less) same below), rising-set xs n x d r.1 (omega arith) same)
 
-  -- one more entry
-  pub count_of-insert : (xs : List (K × ℕ)) (at : ℕ) (new : K × ℕ) (q : K) → count_of cmp (insert xs at new) q ≡ count_of cmp xs q + count_in cmp new q
-  count_of-insert xs at new q =
-      let whole : count_of cmp (take at xs ++ drop at xs) q ≡ count_of cmp xs q = ap (λ ys. count_of cmp ys q) (take-append-drop at xs) in
-      omega (arith, whole, count_of-append cmp (take at xs) (drop at xs) q, count_of-append cmp (take at xs) (new ∷ drop at xs) q)
-
   -- in its gap it keeps the order
   pub rising-insert : (xs : List (K × ℕ)) (at : ℕ) (new : K × ℕ) → IsRising cmp xs → IsGapFor cmp xs new.0 at → IsRising cmp (insert xs at new)
   rising-insert xs at new rising gap =
@@ -92,13 +86,6 @@ module _ {K : Type 0} {cmp : K → K → Ordering} (total : IsTotalOrder cmp) wh
   -- the same count stands with keys that compare Equal
   pub count_in_alike : (a b q : K) (n : ℕ) → cmp a b ≡ Equal → count_in cmp (b, n) q ≡ count_in cmp (a, n) q
   count_in_alike a b q n tied = ap (λ o. match_ordering o 0 n 0) (sym (alike_right total a b q tied))
-
-  pub count_of_raised : (xs : List (K × ℕ)) (at : ℕ) (key : K) (x y : K × ℕ) (n : ℕ) → IsAt cmp xs key at → x ≡ get_or xs at x → y ≡ get_or xs at y → (q : K) → count_of cmp (set xs at (x.0, y.1 + n)) q ≡ count_of cmp xs q + count_in cmp (key, n) q
-  count_of_raised xs at key x y n is_at read read_too q =
-      let same : y ≡ x = read_too ∙ get_or_default xs at y x is_at.within ∙ sym read in
-      let tied : cmp key x.0 ≡ Equal = subst (λ e. cmp key e.0 ≡ Equal) (sym read) (is_at.equal x) in
-      let old : count_in cmp (get_or xs at x) q ≡ count_in cmp (x.0, y.1) q = ap (λ e. count_in cmp e q) (sym read) ∙ ap (λ m. count_in cmp (x.0, m) q) (ap (λ e. e.1) (sym same)) in
-      omega (arith, old, count_of-set cmp xs at (x.0, y.1 + n) x q is_at.within, count_in-add cmp x.0 q y.1 n, count_in_alike key x.0 q n tied)
 
   pub count_of_lowered : (xs : List (K × ℕ)) (at : ℕ) (key : K) (x : K × ℕ) (n : ℕ) → IsAt cmp xs key at → x ≡ get_or xs at x → n ≤ x.1 → (q : K) → count_of cmp (set xs at (x.0, x.1 - n)) q + count_in cmp (key, n) q ≡ count_of cmp xs q
   count_of_lowered xs at key x n is_at read enough q =

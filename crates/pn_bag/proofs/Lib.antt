@@ -4,8 +4,9 @@ pub mod Placing
 pub mod Walking
 pub mod Editing
 pub mod Sifting
-pub mod Merging
 pub mod Copying
 pub mod Summing
 pub mod Canonical
+pub mod Joining
+pub mod Merging
 pub mod Shortness

@@ -31,14 +31,6 @@ module _ {K : Type 0} {cmp : K → K → Ordering} (total : IsTotalOrder cmp) wh
   count_of-joined xs (y ∷ ys) key = omega (arith, count_of-joined (added cmp xs y.0 y.1) ys key, count_of-added xs y.0 y.1 key)
 
   -- the same, of what a call left behind
-  pub added_on_ok : {T E : Type 0} (r : Result T E) (old new : List (K × ℕ)) (key : K) (n : ℕ) → OnOk r ((other : K) → count_of cmp new other ≡ count_of cmp old other + count_in cmp (key, n) other) → OnOk r (IsSame cmp new (added cmp old key n))
-  added_on_ok (Ok x) old new key n counts = λ other. counts other ∙ sym (count_of-added old key n other)
-  added_on_ok (Err e) old new key n counts = tt
-
-  pub joined_on_ok : {T E : Type 0} (r : Result T E) (old more new : List (K × ℕ)) → OnOk r ((key : K) → count_of cmp new key ≡ count_of cmp old key + count_of cmp more key) → OnOk r (IsSame cmp new (joined cmp old more))
-  joined_on_ok (Ok x) old more new counts = λ key. counts key ∙ sym (count_of-joined old more key)
-  joined_on_ok (Err e) old more new counts = tt
-
   pub lessened_on_ok : {T E : Type 0} (r : Result T E) (old less new : List (K × ℕ)) → OnOk r ((key : K) → count_of cmp new key + count_of cmp less key ≡ count_of cmp old key) → OnOk r (IsSame cmp (joined cmp new less) old)
   lessened_on_ok (Ok x) old less new counts = λ key. count_of-joined new less key ∙ counts key
   lessened_on_ok (Err e) old less new counts = tt

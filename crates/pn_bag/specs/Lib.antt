@@ -4,4 +4,3 @@ pub mod Short
 pub mod Bag
 pub mod Places
 pub mod Copies
-pub mod Merges

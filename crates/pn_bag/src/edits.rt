@@ -1,8 +1,9 @@
 //! A key that is added to entries whose keys rise.
 
-ghost use Rattle.std.specs.Prelude.{◌≡◌, ℕ, ◌+◌, ◌<◌, ◌↔◌, Ok, Err, OnOk, OnErr, IsErr};
+ghost use Rattle.std.specs.Prelude.{◌≡◌, ◌+◌, ◌<◌, ◌↔◌, Ok, Err, OnOk, OnErr, IsErr};
+ghost use Rattle.pn_bag.specs.Algebra.{added};
 ghost use Rattle.pn_bag.specs.Bag.{IsBag};
-ghost use Rattle.pn_bag.specs.Counts.{count_in, count_of};
+ghost use Rattle.pn_bag.specs.Counts.{count_of};
 
 use crate::MAX_COUNT;
 use crate::faults::BagFault;
@@ -16,8 +17,7 @@ pub(crate) fn add_entry<K: Ord + Drop>(
     count: u64,
 ) -> Result<(), BagFault>
     requires { IsBag K.cmp entries.old.items }
-    ensures counts { OnOk result ((other : K) → count_of K.cmp entries.new.items other
-        ≡ count_of K.cmp entries.old.items other + count_in K.cmp (key, count) other) }
+    ensures entries { OnOk result (entries.new.items ≡ added K.cmp entries.old.items key count) }
     ensures none { count ≡ 0 → (result ≡ Ok tt) × (entries.new.items ≡ entries.old.items) }
     ensures too_large { (result ≡ Err BagFault.TooLarge)
         ↔ (MAX_COUNT < count_of K.cmp entries.old.items key + count) }

@@ -12,6 +12,13 @@ ghost use Rattle.pn_bag.specs.Counts.{count_of, Every, Includes, IsMultiset, IsR
 ghost use Rattle.pn_bag.specs.Short.{IsFirstShort};
 ghost use Rattle.pn_bag.specs.declared.faults.Short.{Short};
 
+use crate::MAX_COUNT;
+
+/// The greatest count, as a number.
+pub fn greatest_count()
+    ensures { MAX_COUNT ≡ 9223372036854775807 }
+{}
+
 /// Where keys rise, each entry has the count of its key, and each key that has a count has an entry.
 pub fn entries_have_counts<K: Ord>()
     ensures counts { (xs : List (K × ℕ)) → IsRising K.cmp xs

@@ -1,9 +1,9 @@
 //! The sum of two lists of entries whose keys rise, in one merge.
 
-ghost use Rattle.std.specs.Prelude.{◌≡◌, ℕ, ◌+◌, ◌<◌, ◌≤◌, ◌↔◌, List, [], ◌∷◌, ◌++◌, Err, OnOk, OnErr, IfSome, IfNone, IsTrue, false, vec_len, vec_capacity};
+ghost use Rattle.std.specs.Prelude.{◌≡◌, ℕ, ◌+◌, ◌<◌, ◌≤◌, ◌↔◌, List, [], ◌∷◌, ◌++◌, Err, IfOk, OnOk, OnErr, IfSome, IfNone, IsTrue, false, vec_len, vec_capacity};
+ghost use Rattle.pn_bag.specs.Algebra.{joined};
 ghost use Rattle.pn_bag.specs.Bag.{IsBag};
 ghost use Rattle.pn_bag.specs.Counts.{count_of};
-ghost use Rattle.pn_bag.specs.Merges.{TakesGreatest};
 
 use crate::MAX_COUNT;
 use crate::faults::BagFault;
@@ -19,8 +19,8 @@ pub(crate) fn join_entries<K: Ord + Drop>(
 ) -> Result<(), BagFault>
     requires entries { IsBag K.cmp entries.old.items }
     requires other { IsBag K.cmp other.items }
-    ensures counts { OnOk result ((key : K) → count_of K.cmp entries.new.items key
-        ≡ count_of K.cmp entries.old.items key + count_of K.cmp other.items key) }
+    ensures entries { OnOk result (entries.new.items
+        ≡ joined K.cmp entries.old.items other.items) }
     ensures too_large { (result ≡ Err BagFault.TooLarge) ↔ ((key : K) × (MAX_COUNT
         < count_of K.cmp entries.old.items key + count_of K.cmp other.items key)) }
     ensures err { OnErr result (entries.new.items ≡ entries.old.items) }
@@ -29,16 +29,25 @@ pub(crate) fn join_entries<K: Ord + Drop>(
     if sum_passes(entries, &other) {
         return Err(BagFault::TooLarge);
     }
-    let alloc = *entries.allocator();
-    let Some(room) = entries.len().checked_add(other.len()) else {
+    let Ok(merged) = room_for(entries, &other) else {
         return Err(BagFault::Memory(AllocError));
     };
-    let Ok(merged) = Vec::with_capacity(alloc, room) else {
-        return Err(BagFault::Memory(AllocError));
-    };
-    let own = mem::replace(entries, Vec::new(alloc));
+    let own = mem::replace(entries, Vec::new(*merged.allocator()));
     *entries = merge(own, other, merged);
     Ok(())
+}
+
+/// Room for all entries of both lists.
+fn room_for<K: Drop>(
+    left: &Vec<(K, u64)>,
+    right: &Vec<(K, u64)>,
+) -> Result<Vec<(K, u64)>, AllocError>
+    ensures empty { IfOk result (λ room. room.items ≡ []) }
+    ensures room { IfOk result (λ room. vec_len left.now + vec_len right.now
+        ≤ vec_capacity room) }
+{
+    let size = left.len().checked_add(right.len()).ok_or(AllocError)?;
+    Vec::with_capacity(*left.allocator(), size)
 }
 
 /// Moves the entries of both lists into `merged`, which is empty and has room for all.
@@ -53,9 +62,7 @@ fn merge<K: Ord + Drop>(
         ≤ MAX_COUNT }
     requires empty { merged.items ≡ [] }
     requires room { vec_len left + vec_len right ≤ vec_capacity merged }
-    ensures counts { (key : K) → count_of K.cmp result.items key
-        ≡ count_of K.cmp left.items key + count_of K.cmp right.items key }
-    ensures bag { IsBag K.cmp result.items }
+    ensures { result.items ≡ joined K.cmp left.items right.items }
 {
     while let Some(entry) = take_greatest(&mut left, &mut right) {
         if merged.push(entry).is_err() {
@@ -77,8 +84,8 @@ fn take_greatest<K: Ord + Drop>(
         + count_of K.cmp right.old.items key ≤ MAX_COUNT }
     ensures left { IsBag K.cmp left.new.items }
     ensures right { IsBag K.cmp right.new.items }
-    ensures some { IfSome result (TakesGreatest K.cmp left.old.items right.old.items
-        left.new.items right.new.items) }
+    ensures some { IfSome result (λ entry. joined K.cmp left.old.items right.old.items
+        ≡ joined K.cmp left.new.items right.new.items ++ entry ∷ []) }
     ensures none { IfNone result ((left.old.items ≡ []) × (right.old.items ≡ [])) }
     ensures shorter { IfSome result (λ _. vec_len left.new + vec_len right.new
         < vec_len left.old + vec_len right.old) }
@@ -96,8 +103,8 @@ fn take_greatest<K: Ord + Drop>(
         Ordering::Less => Some(take_last(right)),
         Ordering::Greater => Some(take_last(left)),
         Ordering::Equal => {
-            let (_, more) = take_last(right);
             let (key, count) = take_last(left);
+            let (_, more) = take_last(right);
             Some((key, count + more))
         }
     }

@@ -107,9 +107,11 @@ impl<K: Ord + Drop> Bag<K> {
         less_entries(&mut self.entries, &other.entries)
     }
 
-    /// Adds a key some number of times; 0 times changes nothing. A key above all others takes
-    /// amortised constant time, and a key that is there takes no memory.
+    /// Adds a key some number of times; 0 times changes nothing. A key that is there stays, and
+    /// the one that compares Equal to it goes. A key above all others takes amortised constant
+    /// time, and a key that is there takes no memory.
     pub fn add(&mut self, key: K, count: u64) -> Result<(), BagFault>
+        ensures entries { OnOk result (self.new ≡ added K.cmp self.old key count) }
         ensures ok { OnOk result (IsSame K.cmp self.new (added K.cmp self.old key count)) }
         ensures counts { OnOk result ((other : K) → count_of K.cmp self.new other
             ≡ count_of K.cmp self.old other + count_in K.cmp (key, count) other) }
@@ -123,9 +125,10 @@ impl<K: Ord + Drop> Bag<K> {
         add_entry(&mut self.entries, key, count)
     }
 
-    /// Adds the counts of `other`, in one walk over both bags. All memory is taken before anything
-    /// changes.
+    /// Adds the counts of `other`, in one walk over both bags. Of two keys that compare Equal the
+    /// one of this bag stays. All memory is taken before anything changes.
     pub fn join(&mut self, other: Bag<K>) -> Result<(), BagFault>
+        ensures entries { OnOk result (self.new ≡ joined K.cmp self.old other) }
         ensures ok { OnOk result (IsSame K.cmp self.new (joined K.cmp self.old other)) }
         ensures counts { OnOk result ((key : K) → count_of K.cmp self.new key
             ≡ count_of K.cmp self.old key + count_of K.cmp other key) }

@@ -308,6 +308,7 @@ fn is_listed(rt: &impl Abort, alloc: Global, bag: &Bag<u64>) -> Result<(), Fail>
 #[test]
 fn loops_and_laws_apply(rt: HostRuntime) -> Result<(), Fail> {
     image_steps();
+    laws::greatest_count();
     let bag = pair(rt.alloc(), (1u64, 7), (5, 2))?;
     is_listed(&rt, rt.alloc(), &bag)
 }

@@ -1,10 +1,11 @@
+use pn_outside::limits::limits_as_numbers;
 use pn_outside::{
-    CountSink, Failed, MemorySink, MemorySource, PlainSource, Sink, Source, StdSink, StdSource,
-    put_all,
+    BufferedSink, CountSink, Failed, MemorySink, MemorySource, PlainSource, Sink, Source, StdSink,
+    StdSource, put_all,
 };
 use std::alloc::Global;
 use std::io;
-use std::io::{ErrorKind, Read, Write};
+use std::io::{BufWriter, ErrorKind, Read, Write};
 use std::process::Abort;
 use std::test::Fail;
 
@@ -80,6 +81,28 @@ fn a_failing_writer_is_a_fault_each_time(rt: HostRuntime) {
     assert_eq!(rt; sink.done(), Err(Failed));
     assert_eq!(rt; put_all(&mut sink, b"cdefg"), Ok(()));
     assert_eq!(rt; sink.done(), Ok(()));
+}
+
+/// The next calls of `done` answer this, one after the other.
+fn ends<K: Sink>(rt: &impl Abort, sink: &mut K, answers: &[Result<(), Failed>]) {
+    for answer in answers {
+        assert!(rt; sink.done() == *answer);
+    }
+}
+
+#[test]
+fn a_buffer_is_emptied_by_done(rt: HostRuntime) -> Result<(), Fail> {
+    limits_as_numbers();
+    let writer = BufWriter::new(rt.alloc(), make_flaky()).map_err(|_| "no buffer")?;
+    let mut sink = BufferedSink::new(writer);
+    assert_eq!(rt; put_all(&mut sink, b"abc"), Ok(()));
+    // nothing taken of the last byte, a broken pipe, a flush that fails, and all is out
+    ends(
+        &rt,
+        &mut sink,
+        &[Err(Failed), Err(Failed), Err(Failed), Ok(())],
+    );
+    Ok(())
 }
 
 /// A source of eight bytes that is cut at 3 and at 0 bytes, and whose second read fails.

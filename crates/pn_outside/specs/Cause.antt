@@ -1,5 +1,5 @@
 -- When a call may fail: the counts of faults that sources and sinks keep.
-use Rattle.std.specs.Prelude.{◌≡◌, ℕ, ◌+◌, ◌-◌, ◌^◌, ◌≤◌, min, if◌then◌else◌, is_ok, OnErr, Result}
+use Rattle.std.specs.Prelude.{◌≡◌, ℕ, ◌+◌, ◌-◌, ◌^◌, ◌≤◌, min, OnErr, MatchResult, Result}
 
 -- a number as a 64-bit count keeps it, which stands still at its type's end
 abbrev pub capped : ℕ → ℕ
@@ -18,6 +18,6 @@ pub record HasCause {T E : Type 0} (before now : ℕ) (result : Result T E) : Ty
   pub later : before ≤ now
   pub failed : OnErr result (Rose before now)
 
--- a call counted its fault, and no other
+-- a call counted its fault, and no other: the count stays where it answered Ok, and is one more where it failed
 abbrev pub CountsFault : {T E : Type 0} → ℕ → ℕ → Result T E → Type 0
-CountsFault before now result = now ≡ (if is_ok result then before else one_more before)
+CountsFault before now result = MatchResult result (λ _. now ≡ before) (λ _. now ≡ one_more before)

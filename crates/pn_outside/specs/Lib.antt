@@ -3,3 +3,4 @@ pub mod Taking
 pub mod Memory
 pub mod MemoryTelling
 pub mod Streams
+pub mod Buffered

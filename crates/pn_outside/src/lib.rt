@@ -2,6 +2,7 @@
 //! memory, with contracts that say what a failed call left behind.
 #![tactic(auto)]
 
+mod buffered;
 pub mod limits;
 mod memory_input;
 mod memory_output;
@@ -10,6 +11,7 @@ mod put;
 mod streams;
 mod traits;
 
+pub use buffered::BufferedSink;
 pub use memory_input::MemorySource;
 pub use memory_output::MemorySink;
 pub use plain::{CountSink, PlainSource};

@@ -1,7 +1,7 @@
 ghost use Rattle.std.specs.Prelude.{◌≡◌, ◌<◌, ◌≤◌, ℕ, Some};
 ghost use Rattle.std.specs.Io.{ReadsAtMost};
 ghost use Rattle.std.specs.Io.KnownBytes.{ReadConsumes};
-ghost use Rattle.pn_outside.specs.Cause.{HasCause};
+ghost use Rattle.pn_outside.specs.Cause.{CountsFault, HasCause};
 ghost use Rattle.pn_outside.specs.Memory.{Given, IsMemoryRead, cut_of, next_turn};
 
 use crate::plain::copy_front;
@@ -91,6 +91,7 @@ impl Source for MemorySource {
         ensures bound { ReadsAtMost result into.new }
         ensures reads { ReadConsumes (Some self.old.left) (Some self.new.left) result into.new }
         ensures cause { HasCause self.old.faults self.new.faults result }
+        ensures counted { CountsFault self.old.faults self.new.faults result }
         ensures exact { IsMemoryRead self.old self.new result into.new }
     {
         self.calls = self.calls.saturating_add(1);

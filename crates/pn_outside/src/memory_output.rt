@@ -1,6 +1,6 @@
 ghost use Rattle.std.specs.Prelude.{◌≡◌, ◌<◌, ℕ, [], IfOk, OnOk, length, true, refl};
 ghost use Rattle.std.specs.Io.{WritesAtMost};
-ghost use Rattle.pn_outside.specs.Cause.{HasCause};
+ghost use Rattle.pn_outside.specs.Cause.{CountsFault, HasCause};
 ghost use Rattle.pn_outside.specs.Taking.{Takes, WriteTakes};
 ghost use Rattle.pn_outside.specs.Memory.{Kept, IsMemoryWrite};
 ghost use Rattle.pn_outside.specs.MemoryTelling.{kept_bytes, kept_number};
@@ -83,6 +83,7 @@ impl Sink for MemorySink {
         ensures some { IfOk result (λ n. 0 < length piece.now → 0 < n) }
         ensures takes { WriteTakes kept_bytes kept_number self.old self.new result piece.now }
         ensures cause { HasCause self.old.faults self.new.faults result }
+        ensures counted { CountsFault self.old.faults self.new.faults result }
         ensures exact { IsMemoryWrite self.old self.new result piece.now }
     {
         self.writes = self.writes.saturating_add(1);
@@ -104,6 +105,7 @@ impl Sink for MemorySink {
         ensures settled { OnOk result (self.new.settled ≡ true) }
         ensures takes { Takes kept_bytes kept_number self.old self.new [] }
         ensures cause { HasCause self.old.faults self.new.faults result }
+        ensures counted { CountsFault self.old.faults self.new.faults result }
         ensures never_fails { result ≡ Ok tt }
         ensures unchanged { self.new ≡ record self.old { settled = true } }
     {

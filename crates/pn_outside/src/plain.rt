@@ -1,7 +1,7 @@
 ghost use Rattle.std.specs.Prelude.{◌≡◌, ℕ, ◌+◌, ◌<◌, ◌≤◌, min, List, [], ◌++◌, length, take, drop, Option, None, Some, IfOk, OnOk, ⊤};
 ghost use Rattle.std.specs.Io.{ReadsAtMost, WritesAtMost};
 ghost use Rattle.std.specs.Io.KnownBytes.{ReadConsumes};
-ghost use Rattle.pn_outside.specs.Cause.{capped, HasCause};
+ghost use Rattle.pn_outside.specs.Cause.{capped, CountsFault, HasCause};
 ghost use Rattle.pn_outside.specs.Taking.{Takes, WriteTakes};
 
 use crate::{Failed, Sink, Source};
@@ -52,6 +52,7 @@ impl Source for PlainSource {
         ensures bound { ReadsAtMost result into.new }
         ensures reads { ReadConsumes (Some self.old) (Some self.new) result into.new }
         ensures cause { HasCause 0 0 result }
+        ensures unfailed { CountsFault 0 0 result }
         ensures size { result ≡ Ok (min (length into.new) (length self.old)) }
     {
         let most = into.len();
@@ -106,6 +107,7 @@ impl Sink for CountSink {
         ensures some { IfOk result (λ n. 0 < length piece.now → 0 < n) }
         ensures takes { WriteTakes (λ _. None) (λ s. Some s) self.old self.new result piece.now }
         ensures cause { HasCause 0 0 result }
+        ensures unfailed { CountsFault 0 0 result }
         ensures whole { result ≡ Ok (length piece.now) }
         ensures counted { self.new ≡ capped (self.old + length piece.now) }
     {
@@ -117,6 +119,7 @@ impl Sink for CountSink {
         ensures settled { OnOk result ⊤ }
         ensures takes { Takes (λ _. None) (λ s. Some s) self.old self.new [] }
         ensures cause { HasCause 0 0 result }
+        ensures unfailed { CountsFault 0 0 result }
         ensures unchanged { self.new ≡ self.old }
     {
         Ok(())

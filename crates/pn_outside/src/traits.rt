@@ -1,7 +1,7 @@
 ghost use Rattle.std.specs.Prelude.{◌≡◌, ℕ, List, [], ◌<◌, length, Option, None, Some, IfOk, OnOk};
 ghost use Rattle.std.specs.Io.{ReadsAtMost, WritesAtMost};
 ghost use Rattle.std.specs.Io.KnownBytes.{ReadConsumes};
-ghost use Rattle.pn_outside.specs.Cause.{HasCause};
+ghost use Rattle.pn_outside.specs.Cause.{CountsFault, HasCause};
 ghost use Rattle.pn_outside.specs.Taking.{Tells, Takes, WriteTakes};
 
 use thiserror::Error;
@@ -24,7 +24,8 @@ pub trait Source {
     fn read(&mut self, into: &mut [u8]) -> Result<usize, Failed>
         ensures bound { ReadsAtMost result into.new }
         ensures reads { ReadConsumes (left self.old) (left self.new) result into.new }
-        ensures cause { HasCause (faults self.old) (faults self.new) result };
+        ensures cause { HasCause (faults self.old) (faults self.new) result }
+        ensures counted { CountsFault (faults self.old) (faults self.new) result };
 }
 
 /// Where bytes go.
@@ -47,13 +48,15 @@ pub trait Sink {
         ensures bound { WritesAtMost result piece.now }
         ensures some { IfOk result (λ n. 0 < length piece.now → 0 < n) }
         ensures takes { WriteTakes taken number self.old self.new result piece.now }
-        ensures cause { HasCause (faults self.old) (faults self.new) result };
+        ensures cause { HasCause (faults self.old) (faults self.new) result }
+        ensures counted { CountsFault (faults self.old) (faults self.new) result };
 
     /// Passes on what was taken, and takes nothing itself.
     fn done(&mut self) -> Result<(), Failed>
         ensures settled { OnOk result (settled self.new) }
         ensures takes { Takes taken number self.old self.new [] }
-        ensures cause { HasCause (faults self.old) (faults self.new) result };
+        ensures cause { HasCause (faults self.old) (faults self.new) result }
+        ensures counted { CountsFault (faults self.old) (faults self.new) result };
 
     ghost told: { (s : Self) → Tells (taken s) (number s) };
 }

@@ -2,7 +2,7 @@
 #![tactic(auto)]
 
 use pn_command::{Status, run};
-use pn_outside::{PlainSource, StdSink, StdSource};
+use pn_outside::{BufferedSink, PlainSource, StdSink, StdSource};
 use std::env;
 use std::io::{BufWriter, ErrorKind};
 use std::process::ExitCode;
@@ -36,7 +36,7 @@ fn answer(rt: HostRuntime) -> Status {
     };
     let mut source = StdSource::new(rt.stdin());
     let mut side = PlainSource::new(Vec::new(rt.alloc()));
-    let mut out = StdSink::new(stdout);
+    let mut out = BufferedSink::new(stdout);
     let mut err = StdSink::new(rt.stderr());
     run(
         rt.alloc(),

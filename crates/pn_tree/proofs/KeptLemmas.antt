@@ -1,5 +1,5 @@
 -- What holds of a builder's parts stays so.
-use Rattle.std.proofs.Common.{◌≡◌, ℕ, suc, ◌+◌, ◌-◌, ◌<◌, ◌≤◌, true, List, [], ◌∷◌, length, Option, Some, None, IfSome, refl, sym, ap, ◌∙◌, subst}
+use Rattle.std.proofs.Common.{◌≡◌, ℕ, suc, ◌+◌, ◌-◌, ◌<◌, ◌≤◌, true, List, [], ◌∷◌, length, Option, Some, IfSome, sym, ap, ◌∙◌, subst}
 use Rattle.pn_text.specs.Characters.{is_name}
 use Rattle.pn_tree.specs.Elements.{IsTree}
 use Rattle.pn_tree.specs.Building.{Building, innermost, with_kid}

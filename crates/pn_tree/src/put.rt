@@ -1,6 +1,6 @@
 ghost use Rattle.std.specs.Prelude.{◌≡◌, ◌-◌, ◌^◌, ◌++◌, ◌∷◌, [], codes, length, map, min, MatchOption};
 ghost use Rattle.std.specs.List.{flat_map};
-ghost use Rattle.pn_outside.specs.Cause.{HasCause};
+ghost use Rattle.pn_outside.specs.Cause.{CountsFault, HasCause};
 ghost use Rattle.pn_outside.specs.Taking.{Puts};
 ghost use Rattle.pn_tree.specs.Canonical.{text_escape, value_escape, attr_text, child_text, content_text, element_text, canonical_text};
 ghost use Rattle.pn_tree.specs.Places.{escape_in};
@@ -53,6 +53,7 @@ fn reference_in(place: Place, byte: u8) -> Option<&'static str>
 fn put_escaped<K: Sink>(sink: &mut K, place: Place, text: &str) -> Result<(), Failed>
     ensures puts { Puts K.taken K.number result sink.old sink.new (flat_map (escape_in place) text.now) }
     ensures cause { HasCause (K.faults sink.old) (K.faults sink.new) result }
+    ensures counted { CountsFault (K.faults sink.old) (K.faults sink.new) result }
 {
     let bytes = text.as_bytes();
     let mut start = 0;
@@ -69,6 +70,7 @@ fn put_escaped<K: Sink>(sink: &mut K, place: Place, text: &str) -> Result<(), Fa
 fn put_run<K: Sink>(sink: &mut K, run: &[u8], reference: &str) -> Result<(), Failed>
     ensures puts { Puts K.taken K.number result sink.old sink.new (run.now ++ reference.now) }
     ensures cause { HasCause (K.faults sink.old) (K.faults sink.new) result }
+    ensures counted { CountsFault (K.faults sink.old) (K.faults sink.new) result }
 {
     put_all(sink, run)?;
     put_text(sink, reference)
@@ -78,6 +80,7 @@ fn put_run<K: Sink>(sink: &mut K, run: &[u8], reference: &str) -> Result<(), Fai
 fn put_name<K: Sink>(sink: &mut K, before: &str, name: &str, after: &str) -> Result<(), Failed>
     ensures puts { Puts K.taken K.number result sink.old sink.new (before.now ++ (name.now ++ after.now)) }
     ensures cause { HasCause (K.faults sink.old) (K.faults sink.new) result }
+    ensures counted { CountsFault (K.faults sink.old) (K.faults sink.new) result }
 {
     put_text(sink, before)?;
     put_text(sink, name)?;
@@ -87,6 +90,7 @@ fn put_name<K: Sink>(sink: &mut K, before: &str, name: &str, after: &str) -> Res
 fn put_attr<K: Sink>(sink: &mut K, attr: &Attr) -> Result<(), Failed>
     ensures puts { Puts K.taken K.number result sink.old sink.new (attr_text attr.now) }
     ensures cause { HasCause (K.faults sink.old) (K.faults sink.new) result }
+    ensures counted { CountsFault (K.faults sink.old) (K.faults sink.new) result }
 {
     put_name(sink, " ", attr.name.as_str(), "=\"")?;
     put_escaped(sink, Place::Value, attr.value.as_str())?;
@@ -96,6 +100,7 @@ fn put_attr<K: Sink>(sink: &mut K, attr: &Attr) -> Result<(), Failed>
 fn put_attrs<K: Sink>(sink: &mut K, attrs: &[Attr]) -> Result<(), Failed>
     ensures puts { Puts K.taken K.number result sink.old sink.new (flat_map attr_text attrs.now) }
     ensures cause { HasCause (K.faults sink.old) (K.faults sink.new) result }
+    ensures counted { CountsFault (K.faults sink.old) (K.faults sink.new) result }
 {
     for attr in attrs {
         put_attr(sink, attr)?;
@@ -107,6 +112,7 @@ fn put_start<K: Sink>(sink: &mut K, element: &Element) -> Result<(), Failed>
     ensures puts { Puts K.taken K.number result sink.old sink.new
         (codes "<" ++ (element.now.name ++ flat_map attr_text element.now.attrs)) }
     ensures cause { HasCause (K.faults sink.old) (K.faults sink.new) result }
+    ensures counted { CountsFault (K.faults sink.old) (K.faults sink.new) result }
 {
     put_name(sink, "<", element.name.as_str(), "")?;
     put_attrs(sink, element.attrs.as_slice())
@@ -117,6 +123,7 @@ fn put_start<K: Sink>(sink: &mut K, element: &Element) -> Result<(), Failed>
 fn put_element<K: Sink>(sink: &mut K, element: &Element) -> Result<(), Failed>
     ensures puts { Puts K.taken K.number result sink.old sink.new (element_text element.now) }
     ensures cause { HasCause (K.faults sink.old) (K.faults sink.new) result }
+    ensures counted { CountsFault (K.faults sink.old) (K.faults sink.new) result }
 {
     put_start(sink, element)?;
     if element.kids.is_empty() {
@@ -131,6 +138,7 @@ fn put_element<K: Sink>(sink: &mut K, element: &Element) -> Result<(), Failed>
 fn put_kids<K: Sink>(sink: &mut K, kids: &[Child]) -> Result<(), Failed>
     ensures puts { Puts K.taken K.number result sink.old sink.new (flat_map child_text kids.now) }
     ensures cause { HasCause (K.faults sink.old) (K.faults sink.new) result }
+    ensures counted { CountsFault (K.faults sink.old) (K.faults sink.new) result }
 {
     for kid in kids {
         put_child(sink, kid)?;
@@ -142,6 +150,7 @@ fn put_kids<K: Sink>(sink: &mut K, kids: &[Child]) -> Result<(), Failed>
 fn put_child<K: Sink>(sink: &mut K, kid: &Child) -> Result<(), Failed>
     ensures puts { Puts K.taken K.number result sink.old sink.new (child_text kid.now) }
     ensures cause { HasCause (K.faults sink.old) (K.faults sink.new) result }
+    ensures counted { CountsFault (K.faults sink.old) (K.faults sink.new) result }
 {
     match kid {
         Child::Element(element) => put_element(sink, element),
@@ -154,6 +163,7 @@ fn put_child<K: Sink>(sink: &mut K, kid: &Child) -> Result<(), Failed>
 pub fn put_tree<K: Sink>(tree: &Tree, sink: &mut K) -> Result<(), Failed>
     ensures puts { Puts K.taken K.number result sink.old sink.new (canonical_text tree.now) }
     ensures cause { HasCause (K.faults sink.old) (K.faults sink.new) result }
+    ensures counted { CountsFault (K.faults sink.old) (K.faults sink.new) result }
 {
     put_text(sink, "<?xml version=\"1.0\" encoding=\"UTF-8\"?>\n")?;
     put_element(sink, tree.element())?;

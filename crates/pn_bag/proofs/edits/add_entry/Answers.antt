@@ -2,11 +2,11 @@ use Rattle.std.proofs.Common.{◌≡◌, refl, subst, sym, ap, ◌∙◌, rules,
 use Rattle.std.specs.List.{insert}
 use Rattle.pn_bag.specs.declared.TheConstants.{MAX_COUNT}
 use Rattle.pn_bag.specs.Bag.{IsBag}
-use Rattle.pn_bag.specs.Counts.{count_of}
 use Rattle.pn_bag.specs.Places.{IsAt, IsGapFor}
 use Rattle.pn_bag.proofs.Placing.{count_at, count_in_gap}
 use Rattle.pn_bag.proofs.Walking.{count_bound}
-use Rattle.pn_bag.proofs.Editing.{count_of_raised, count_of-insert, bag-insert, bag-set}
+use Rattle.pn_bag.proofs.Editing.{bag-insert, bag-set}
+use Rattle.pn_bag.proofs.Joining.{added_in_gap, added_there}
 use Rattle.pn_bag.proofs.edits.add_entry.Goals as goal
 
 -- no count passes the greatest
@@ -20,10 +20,10 @@ returns-then-count-has-clause-too_large g c =
     let place = subst (λ xs. IsAt g.K.Ord.cmp xs c.args.key c.in-Ok.at) c.deref.ensures.value c.in-Ok.ensures.found in
     (λ never. omega (arith, count_at g.met.K.Ord.total _ _ c.index.result.now _ c.requires.rising place, ap (λ e. e.1) c.index.ensures), λ large. refl)
 
-pub returns-else-count-has-clause-counts : goal.returns-else-count-has-clause-counts
-returns-else-count-has-clause-counts g c other =
+pub returns-else-count-has-clause-entries : goal.returns-else-count-has-clause-entries
+returns-else-count-has-clause-entries g c =
     let place = subst (λ xs. IsAt g.K.Ord.cmp xs c.args.key c.in-Ok.at) c.deref.ensures.value c.in-Ok.ensures.found in
-    count_of_raised g.met.K.Ord.total _ _ _ _ _ _ place c.index_mut.ensures.value c.index.ensures other
+    added_there g.met.K.Ord.total _ _ _ _ _ _ place c.index_mut.ensures.value c.index.ensures (omega arith)
 
 pub returns-else-count-has-clause-too_large : goal.returns-else-count-has-clause-too_large
 returns-else-count-has-clause-too_large g c =
@@ -43,10 +43,11 @@ returns-then-is_err-clause-too_large g c =
     let place = subst (λ xs. IsGapFor g.K.Ord.cmp xs c.args.key c.in-Err.at) c.deref.ensures.value c.in-Err.ensures.absent in
     (λ never. absurd cc, λ large. absurd (omega (arith, count_in_gap g.met.K.Ord.total _ _ _ place)))
 
-pub returns-else-is_err-clause-counts : goal.returns-else-is_err-clause-counts
-returns-else-is_err-clause-counts g c other =
+pub returns-else-is_err-clause-entries : goal.returns-else-is_err-clause-entries
+returns-else-is_err-clause-entries g c =
+    let place = subst (λ xs. IsGapFor g.K.Ord.cmp xs c.args.key c.in-Err.at) c.deref.ensures.value c.in-Err.ensures.absent in
     let items : c.insert.new.self.items ≡ insert c.args.entries.now.items c.in-Err.at (c.args.key, c.args.count) = search rules in
-    ap (λ xs. count_of g.K.Ord.cmp xs other) items ∙ count_of-insert g.K.Ord.cmp _ _ _ other
+    items ∙ added_in_gap g.met.K.Ord.total _ _ _ _ place (omega arith)
 
 pub returns-else-is_err-clause-too_large : goal.returns-else-is_err-clause-too_large
 returns-else-is_err-clause-too_large g c =

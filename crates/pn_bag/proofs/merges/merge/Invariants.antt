@@ -1,18 +1,18 @@
-use Rattle.std.proofs.Common.{◌≡◌, ◌+◌, ◌<◌, ◌≤◌, reverse, vec_len, vec_capacity}
-use Rattle.std.specs.declared.cmp.Ordering.TheVariants.{Less}
+use Rattle.std.proofs.Common.{◌≡◌, ◌+◌, ◌++◌, ◌≤◌, reverse, vec_len, vec_capacity}
+use Rattle.pn_bag.specs.declared.TheConstants.{MAX_COUNT}
+use Rattle.pn_bag.specs.Algebra.{joined}
 use Rattle.pn_bag.specs.Bag.{IsBag}
-use Rattle.pn_bag.specs.Counts.{count_of, Every}
+use Rattle.pn_bag.specs.Counts.{count_of}
 use Rattle.pn_bag.proofs.merges.merge.Given as goal
 
--- what is merged so far, from the greatest key down, has keys above all that are left
+-- the sum of what is left, and behind it what is merged so far, from the greatest key down
 abbrev pub invariant-loop-entry : goal.invariant-loop-entry
 invariant-loop-entry g l = record {
   left : IsBag g.K.Ord.cmp l.left.items;
   right : IsBag g.K.Ord.cmp l.right.items;
-  merged : IsBag g.K.Ord.cmp (reverse l.merged.items);
+  fits : (key : g.row.K.Denot) → count_of g.K.Ord.cmp l.left.items key + count_of g.K.Ord.cmp l.right.items key ≤ MAX_COUNT;
   room : vec_len l.merged + (vec_len l.left + vec_len l.right) ≤ vec_capacity l.merged;
-  above : (key : g.row.K.Denot) → 0 < count_of g.K.Ord.cmp l.left.items key + count_of g.K.Ord.cmp l.right.items key → Every (λ e. g.K.Ord.cmp key e.0 ≡ Less) (reverse l.merged.items);
-  counts : (key : g.row.K.Denot) → count_of g.K.Ord.cmp l.left.items key + count_of g.K.Ord.cmp l.right.items key + count_of g.K.Ord.cmp (reverse l.merged.items) key ≡ count_of g.K.Ord.cmp l.initial.left.items key + count_of g.K.Ord.cmp l.initial.right.items key;
+  whole : joined g.K.Ord.cmp l.initial.left.items l.initial.right.items ≡ joined g.K.Ord.cmp l.left.items l.right.items ++ reverse l.merged.items;
 }
 
 abbrev pub decreases-loop-entry : goal.decreases-loop-entry

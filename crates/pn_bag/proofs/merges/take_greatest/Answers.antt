@@ -21,7 +21,7 @@ returns-then-is_empty-4-clause-left g c = bag_front g.K.Ord.cmp _ _ _ c.take_las
 pub returns-then-is_empty-4-clause-some : goal.returns-then-is_empty-4-clause-some
 returns-then-is_empty-4-clause-some g c =
     let none : c.args.right.now.items ≡ [] = nil_from_length _ (omega (arith, eqb-true (vec_len c.args.right.now) 0 (sym c.is_empty-3.ensures ∙ c.if-is_empty-4.true))) in
-    takes_left g.met.K.Ord.total _ _ _ _ c.take_last-then-is_empty-4.ensures.items c.requires.left (subst (Every (λ z. g.K.Ord.cmp z.0 c.take_last-then-is_empty-4.result.0 ≡ Less)) (sym none) tt)
+    takes_left g.met.K.Ord.total _ _ _ _ c.take_last-then-is_empty-4.ensures.items (subst (Every (λ z. g.K.Ord.cmp z.0 c.take_last-then-is_empty-4.result.0 ≡ Less)) (sym none) tt)
 
 -- the last key of the right list is greater
 pub returns-in-Less-clause-right : goal.returns-in-Less-clause-right
@@ -60,4 +60,4 @@ pub returns-in-Equal-clause-some : goal.returns-in-Equal-clause-some
 returns-in-Equal-clause-some g c =
     let left : c.len.result - 1 + 1 ≡ length c.args.left.now.items = omega (arith, eqb-false (vec_len c.args.left.now) 0 (sym c.is_empty-2.ensures ∙ c.if-is_empty-3.false), c.len.ensures) in
     let right : c.len-2.result - 1 + 1 ≡ length c.args.right.now.items = omega (arith, eqb-false (vec_len c.args.right.now) 0 (sym c.is_empty-3.ensures ∙ c.if-is_empty-4.false), c.len-2.ensures) in
-    takes_both g.met.K.Ord.total _ _ _ _ _ _ _ _ _ _ c.take_last-key.ensures.items c.take_last-more.ensures.items left right c.index.ensures c.index-2.ensures (sym c.in-Equal.ensures) c.requires.left c.requires.right c.requires.fits
+    takes_both g.met.K.Ord.total _ _ _ _ _ _ _ _ _ _ c.take_last-key.ensures.items c.take_last-more.ensures.items left right c.index.ensures c.index-2.ensures (sym c.in-Equal.ensures) c.requires.left c.requires.right

@@ -1,11 +1,11 @@
-use Rattle.std.proofs.Common.{◌≡◌, ◌-◌, length, take, drop, arith, subst}
+use Rattle.std.proofs.Common.{◌≡◌, ◌-◌, length, take, drop, arith, refl, ◌∙◌, subst}
 use Rattle.std.proofs.lemmas.Grind.{common_steps}
 use Rattle.pn_outside.specs.Taking.{Takes}
 use Rattle.pn_outside.proofs.TakingLemmas.{took_nothing, takes_more, front_stays, puts_failed}
 use Rattle.pn_outside.proofs.put.put_all.Goals as goal
 
 pub loop-at-init : goal.loop-at-init
-loop-at-init g c = record { within = omega arith; takes = took_nothing _; later = omega arith }
+loop-at-init g c = record { within = omega arith; takes = took_nothing _; unfailed = refl }
 
 pub returns-in_err-at-clause-puts : goal.returns-in_err-at-clause-puts
 returns-in_err-at-clause-puts g c =
@@ -19,7 +19,7 @@ loop-at-preserved g c = record {
       let is : take (length c.args.bytes.now - c.loop-at.at) (drop c.loop-at.at c.args.bytes.now) ≡ drop c.loop-at.at c.args.bytes.now = grind (arith, common_steps) in
       takes_more _ _ _ c.args.bytes.now (take (length c.args.bytes.now - c.loop-at.at) (drop c.loop-at.at c.args.bytes.now)) c.loop-at.at c.in_ok-at.field-0
       c.loop-at.invariant.within is c.loop-at.invariant.takes c.in_ok-at.ensures.takes;
-  later = omega (arith, c.loop-at.invariant.later, c.in_ok-at.ensures.cause.later);
+  unfailed = c.in_ok-at.ensures.counted ∙ c.loop-at.invariant.unfailed;
 }
 
 pub returns-clause-puts : goal.returns-clause-puts

@@ -1,4 +1,4 @@
-use Rattle.std.proofs.Common.{◌+◌, arith}
+use Rattle.std.proofs.Common.{◌+◌, ◌∙◌, arith}
 use Rattle.pn_outside.proofs.TakingLemmas.{puts_failed}
 use Rattle.pn_tree.specs.Places.{escape_in}
 use Rattle.pn_tree.proofs.EscapeLemmas.{run_none, run_more, took_run, run_failed, took_rest}
@@ -20,13 +20,13 @@ loop-at-preserved g c =
         within = omega (arith, w.start-is);
         takes = rw (w.sink-is, w.start-is) (took_run _ _ _ escape bytes w.in-Some.reference.now c.loop-at.start c.loop-at.at c.loop-at-test.true c.loop-at.invariant.plain w.in-Some.ensures c.loop-at.invariant.takes w.in_ok-put_run.ensures.puts.all);
         plain = rw w.start-is (run_none escape bytes (c.loop-at.at + 1));
-        later = rw w.sink-is (omega (arith, c.loop-at.invariant.later, w.put_run.ensures.cause.later));
+        unfailed = rw w.sink-is (w.in_ok-put_run.ensures.counted ∙ c.loop-at.invariant.unfailed);
       }
       | in_default w ↦ record {
         within = omega (arith, w.start-is, c.loop-at.invariant.within);
         takes = rw (w.sink-is, w.start-is) c.loop-at.invariant.takes;
         plain = rw w.start-is (run_more escape bytes c.loop-at.start c.loop-at.at c.loop-at.invariant.within c.loop-at-test.true w.in_default.ensures c.loop-at.invariant.plain);
-        later = rw w.sink-is c.loop-at.invariant.later;
+        unfailed = rw w.sink-is c.loop-at.invariant.unfailed;
       }
     ]
 

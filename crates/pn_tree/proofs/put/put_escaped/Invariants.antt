@@ -1,4 +1,4 @@
-use Rattle.std.proofs.Common.{◌≤◌, take}
+use Rattle.std.proofs.Common.{◌≡◌, ◌≤◌, take}
 use Rattle.std.specs.List.{flat_map}
 use Rattle.pn_outside.specs.Taking.{Takes}
 use Rattle.pn_tree.specs.Places.{escape_in}
@@ -10,5 +10,5 @@ invariant-loop-at g l = record {
   within : l.start ≤ l.at;
   takes : Takes g.K.Sink.taken g.K.Sink.number l.initial.sink l.sink (flat_map (escape_in l.place) (take l.start l.bytes));
   plain : IsRun (escape_in l.place) l.bytes l.start l.at;
-  later : g.K.Sink.faults l.initial.sink ≤ g.K.Sink.faults l.sink;
+  unfailed : g.K.Sink.faults l.sink ≡ g.K.Sink.faults l.initial.sink;
 }

@@ -1,0 +1,12 @@
+use Rattle.std.proofs.Common.{◌+◌, ◌≤◌, sym, subst, rules}
+use Rattle.pn_bag.specs.declared.TheConstants.{MAX_COUNT}
+use Rattle.pn_bag.specs.Bag.{IsBag}
+use Rattle.pn_bag.specs.Counts.{count_of}
+use Rattle.pn_bag.proofs.Joining.{bag_joined}
+use Rattle.pn_bag.proofs.merges.join_entries.Goals as goal
+
+pub returns-clause-bag : goal.returns-clause-bag
+returns-clause-bag g c =
+    let own : IsBag g.K.Ord.cmp c.replace-own.result.items = search rules in
+    let fits : (key : g.row.K.Denot) → count_of g.K.Ord.cmp c.replace-own.result.items key + count_of g.K.Ord.cmp c.args.other.items key ≤ MAX_COUNT = search rules in
+    subst (IsBag g.K.Ord.cmp) (sym c.merge.ensures) (bag_joined g.met.K.Ord.total _ _ own fits)
