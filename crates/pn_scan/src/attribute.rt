@@ -1,12 +1,13 @@
 //! Attributes.
 
-ghost use Rattle.std.specs.Prelude.{◌≡◌, ◌<◌, ◌++◌, true, None, OnOk, IfSome, IfOk};
+ghost use Rattle.std.specs.Prelude.{◌≡◌, ◌<◌, ◌++◌, true, false, None, Some, OnOk, IfSome, IfOk};
 ghost use Rattle.std.specs.Option.{option_map};
 ghost use Rattle.pn_text.specs.Characters.{is_name, is_text};
+ghost use Rattle.pn_tree.specs.Building.{with_attr};
 ghost use Rattle.pn_tree.specs.Elements.{attr_value};
 ghost use Rattle.pn_scan.specs.NextState.{next_state, next_before_equals, next_behind_equals, next_in_value, space_text};
 ghost use Rattle.pn_scan.specs.Nestings.{nesting_of, levels_of, inner_of, outer_of, Belongs};
-ghost use Rattle.pn_scan.specs.State.{Nesting, in_attribute};
+ghost use Rattle.pn_scan.specs.State.{Nesting, in_attribute, in_tag};
 ghost use Rattle.pn_scan.specs.Contexts.{state_of, IsTag, Admits};
 
 use crate::bytes::{continues_name, is_quote_byte, is_space_byte};
@@ -82,6 +83,22 @@ fn put_value_byte(value: &mut Vec<u8>, cr: bool, byte: u8) -> Result<(), AllocEr
     Ok(())
 }
 
+/// The quote behind the value of an attribute.
+fn value_end(tree: &mut OpenTree, name: &[u8], value: &[u8]) -> Result<Option<Context>, AllocError>
+    requires belongs { Belongs tree.old }
+    requires is_tag { IsTag (nesting_of tree.old) }
+    requires name { is_name name.now ≡ true }
+    requires is_new { attr_value name.now (inner_of (nesting_of tree.old)).attrs ≡ None }
+    requires whole { is_text value.now ≡ true }
+    ensures state { IfOk result (λ m. option_map (state_of (nesting_of tree.new)) m
+        ≡ Some (in_tag (levels_of (nesting_of tree.old)) (outer_of (nesting_of tree.old)) (with_attr name.now value.now (inner_of (nesting_of tree.old))) false)) }
+    ensures fits { IfOk result (λ m. IfSome m (Admits (nesting_of tree.new))) }
+    ensures belongs { OnOk result (Belongs tree.new) }
+{
+    tree.attr(name, value)?;
+    Ok(Some(Context::Tag { spaced: false }))
+}
+
 /// A byte of the value of an attribute.
 pub(crate) fn value(
     tree: &mut OpenTree,
@@ -103,8 +120,7 @@ pub(crate) fn value(
     ensures belongs { OnOk result (Belongs tree.new) }
 {
     if byte == quote {
-        tree.attr(&name, &value)?;
-        return Ok(Some(Context::Tag { spaced: false }));
+        return value_end(tree, &name, &value);
     }
     if byte == b'<' {
         return Ok(None);

@@ -1,6 +1,8 @@
 //! The tree as far as it was read.
 
-ghost use Rattle.std.specs.Prelude.{◌≡◌, ◌<◌, ◌≤◌, ◌+◌, ◌-◌, true, false, [], suc, length, drop, is_some, slice_get, IfSome, OnOk};
+ghost use Rattle.std.specs.Prelude.{◌≡◌, ℕ, List, if◌then◌else◌, ◌<◌, ◌≤◌, ◌+◌, ◌-◌, true, false, [], suc, length, drop, is_some, slice_get, IfSome, OnOk};
+ghost use Rattle.std.specs.Str.{bytes_eq};
+ghost use Rattle.indexmap.specs.IndexSet.{contains_text};
 ghost use Rattle.pn_text.specs.Characters.{is_name, is_text};
 ghost use Rattle.pn_tree.specs.Building.{with_attr, with_text};
 ghost use Rattle.pn_tree.specs.Elements.{attr_value};
@@ -65,6 +67,15 @@ fn front_behind(name: &[u8], read: usize, piece: &[u8]) -> usize
         return 0;
     }
     due_front(&name[read..], piece)
+}
+
+/// Notes the name of an attribute.
+fn note_name(alloc: Global, names: &mut IndexSet<String>, name: &str) -> Result<(), AllocError>
+    ensures { OnOk result ((q : List ℕ)
+        → contains_text names.new q ≡ (if bytes_eq name.now q then true else contains_text names.old q)) }
+{
+    names.insert(String::from_str(alloc, name)?)?;
+    Ok(())
 }
 
 impl OpenTree {
@@ -133,7 +144,7 @@ impl OpenTree {
         ensures belongs { OnOk result (Belongs self.new) }
     {
         let name = as_text(name);
-        self.attributes.insert(String::from_str(self.alloc, name)?)?;
+        note_name(self.alloc, &mut self.attributes, name)?;
         self.builder.attr(name, as_text(value))?;
         Ok(())
     }

@@ -1,9 +1,9 @@
 //! The scanner.
 
-ghost use Rattle.std.specs.Prelude.{◌≡◌, ◌⊎◌, ◌<◌, ◌≤◌, ◌++◌, ◌∷◌, ℕ, List, [], length, take, None, Some, IfOk, MatchResult};
+ghost use Rattle.std.specs.Prelude.{◌≡◌, ◌⊎◌, ◌<◌, ◌≤◌, ◌++◌, ◌∷◌, ℕ, true, List, [], length, take, None, Some, IfOk, MatchResult};
 ghost use Rattle.pn_markup.specs.Document.{IsDocument, IsFront};
 ghost use Rattle.pn_markup.specs.Offsets.{HasRisingOffsets};
-ghost use Rattle.pn_scan.specs.Nestings.{nesting_of, IsWhere, Belongs};
+ghost use Rattle.pn_scan.specs.Nestings.{nesting_of, inner_of, IsWhere, Belongs};
 ghost use Rattle.pn_scan.specs.Contexts.{state_of, Admits};
 ghost use Rattle.pn_scan.specs.State.{Nesting};
 ghost use Rattle.pn_scan.specs.Reading.{IsReading, IsBroken, IsTooLong, IsOnlyFront, IsMemory, HasReadTo, HasRead, EndsAt, answer_of, fault_of};
@@ -47,7 +47,8 @@ pub struct Scanner {
 
 /// Whether a document ends here.
 fn is_at_end(context: &Context, nesting: Where, opened: Open) -> bool
-    ensures { (p : Nesting) → IsWhere nesting p → EndsAt result p context.now opened }
+    ensures behind { result ≡ true → nesting ≡ Where.Behind }
+    ensures ends { (p : Nesting) → IsWhere nesting p → EndsAt result p context.now opened }
 {
     match context {
         Context::Between => matches!(nesting, Where::Behind) && matches!(opened, Open::Nothing),
@@ -244,6 +245,24 @@ impl Scanner {
         self.answer()
     }
 
+    /// Whether all bytes so far are a document.
+    fn is_whole(&self) -> bool
+        requires { Belongs self.now.tree }
+        ensures behind { result ≡ true → IsWhere Where.Behind (nesting_of self.now.tree) }
+        ensures ends { EndsAt result (nesting_of self.now.tree) self.now.context self.now.opened }
+    {
+        is_at_end(&self.context, self.tree.nesting(), self.opened)
+    }
+
+    /// The tree, behind its root.
+    fn into_tree(self) -> Tree
+        requires belongs { Belongs self.tree }
+        requires behind { IsWhere Where.Behind (nesting_of self.tree) }
+        ensures { result ≡ inner_of (nesting_of self.tree) }
+    {
+        self.tree.finish()
+    }
+
     /// The end, where no fault was found.
     fn end(self) -> Result<Tree, ScanFault>
         requires { (b : List ℕ) × IsReading self.tree self.context self.opened self.count b }
@@ -251,11 +270,12 @@ impl Scanner {
             → MatchResult result (λ t. IsDocument t b) (λ f. (f ≡ ScanFault.Broken (length b)) × IsOnlyFront b) }
         ensures ordered { IfOk result HasRisingOffsets }
     {
-        let nesting = self.tree.nesting();
-        if is_at_end(&self.context, nesting, self.opened) {
-            return Ok(self.tree.finish());
+        if self.is_whole() {
+            return Ok(self.into_tree());
         }
-        Err(ScanFault::Broken(self.count))
+        let count = self.count;
+        drop(self);
+        Err(ScanFault::Broken(count))
     }
 
     /// The tree that all bytes spell, or `Broken` with their number where they begin a document
@@ -268,7 +288,10 @@ impl Scanner {
         ensures ordered { IfOk result HasRisingOffsets }
     {
         match self.fault {
-            Some(fault) => Err(fault),
+            Some(fault) => {
+                drop(self);
+                Err(fault)
+            }
             None => self.end(),
         }
     }

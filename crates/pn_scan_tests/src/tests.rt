@@ -25,8 +25,13 @@ fn read(alloc: Global, bytes: &[u8], size: usize) -> Result<Tree, ScanFault>
     requires { 0 < size }
 {
     let mut scanner = Scanner::new(alloc);
-    feed_all(&mut scanner, bytes, size)?;
-    scanner.finish()
+    match feed_all(&mut scanner, bytes, size) {
+        Ok(()) => scanner.finish(),
+        Err(fault) => {
+            drop(scanner);
+            Err(fault)
+        }
+    }
 }
 
 /// The offset at which bytes break in pieces of this size, or `None` where they are a document.
@@ -331,13 +336,20 @@ fn at_most_256_elements_are_open(rt: HostRuntime) -> Result<(), Fail> {
     deep_breaks_at(&rt, rt.alloc(), 256, 769)
 }
 
+/// The offset of the root that bytes spell, read in pieces of seven.
+fn root_offset(alloc: Global, bytes: &[u8]) -> Option<u64> {
+    match read(alloc, bytes, 7) {
+        Ok(tree) => Some(tree.root().at()),
+        Err(_) => None,
+    }
+}
+
 #[test]
 fn the_offset_counts_a_byte_order_mark(rt: HostRuntime) -> Result<(), Fail> {
-    let Ok(tree) = read(rt.alloc(), "\u{FEFF} <a/>".as_bytes(), 7) else {
-        assert!(&rt; false);
-        return Ok(());
-    };
-    assert_eq!(&rt; tree.root().at(), 4);
+    assert_eq!(&rt;
+        root_offset(rt.alloc(), "\u{FEFF} <a/>".as_bytes()),
+        Some(4)
+    );
     Ok(())
 }
 

@@ -1,7 +1,5 @@
 use Rattle.std.proofs.Common.{refl, true, ap, cond, ◌∙◌}
 use Rattle.std.specs.Str.{bytes_eq}
-use Rattle.std.specs.String.{string_bytes}
-use Rattle.std.proofs.lemmas.Map.Text.{hash_set_updates_text}
 use Rattle.indexmap.specs.IndexSet.{contains_text}
 use Rattle.pn_tree.specs.Building.{at_innermost, with_attr}
 use Rattle.pn_scan.proofs.OpenTreeLemmas.{belongs_attr}
@@ -10,10 +8,7 @@ use Rattle.pn_scan.proofs.open_tree.OpenTree.attr.Goals as goal
 pub returns-clause-belongs : goal.returns-clause-belongs
 returns-clause-belongs c =
     let t = c.args.self.now in
-    let key = c.in_ok-from_str.field-0 in
     belongs_attr t _ c.args.name.now c.args.value.now c.requires.belongs refl refl
     (c.in_ok-attr.ensures ∙ ap (λ n. at_innermost (with_attr n c.as_text.result.now) t.builder) c.as_text-name.ensures
     ∙ ap (λ v. at_innermost (with_attr c.args.name.now v) t.builder) c.as_text.ensures)
-    (λ q.
-    hash_set_updates_text (string_bytes key) t.attributes c.insert.new.self true c.in_ok-insert.ensures.updates q
-    ∙ ap (λ b. cond (bytes_eq b q) true (contains_text t.attributes q)) (c.in_ok-from_str.ensures.ok ∙ c.as_text-name.ensures))
+    (λ q. c.in_ok-note_name.ensures q ∙ ap (λ b. cond (bytes_eq b q) true (contains_text t.attributes q)) c.as_text-name.ensures)
