@@ -25,8 +25,7 @@ use Rattle.pn_tree.specs.declared.element.Attr.{Attr}
 use Rattle.std.proofs.lemmas.Slice.Eq.{bytes_eq-Decides}
 use Rattle.std.proofs.lemmas.Fmt.{decimal_injective}
 use Rattle.pn_command.specs.declared.plain.net.Place.{Place}
-use Rattle.pn_command.specs.declared.plain.net.Arc.{Arc}
-use Rattle.pn_command.specs.NetTree.{attribute, made, number_tree, label_kids, place_tree, transition_tree, arc_tree}
+use Rattle.pn_command.specs.NetTree.{arc_with, attribute, made, number_tree, label_kids, place_tree, transition_tree, arc_tree}
 use Rattle.pn_command.specs.Plain.{IsCount, IsLabel, IsId, IsPlace, IsArc, SpellsNumber}
 use Rattle.pn_command.specs.PlainTree.{ReadsPart, AreParts, HasNoParts, text_tree, bare, shown, IsInside, HasText, bare_child, bare_step, is_written, is_written_layer, written_kids}
 
@@ -296,9 +295,6 @@ transition_is e items id own named one same has inside none = (
   found e (codes "transition") (attribute (codes "id") own ∷ []) [] items named
       (one_attr e.attrs (attribute (codes "id") id) one has.1 ∙ ap (λ (i : List ℕ). attribute (codes "id") i ∷ []) (sym same)) inside (ap (map shown) none),
 )
-
-abbrev pub arc_with : List ℕ → List ℕ → List ℕ → Option ℕ → Arc
-arc_with id source target weight = record { id = id; source = source; target = target; weight = weight }
 
 abbrev arc_attrs : List ℕ → List ℕ → List ℕ → List Attr
 arc_attrs id source target = attribute (codes "id") id ∷ attribute (codes "source") source ∷ attribute (codes "target") target ∷ []

@@ -23,7 +23,7 @@ use Rattle.pn_markup.proofs.OffsetLemmas.{kid_without-element, without_offsets_i
 use Rattle.pn_markup.proofs.SpellingLemmas.{document_tree}
 use Rattle.pn_command.specs.declared.plain.net.Place.{Place}
 use Rattle.pn_command.specs.declared.plain.net.Arc.{Arc}
-use Rattle.pn_command.specs.Links.{IsPlain, Spells}
+use Rattle.pn_command.specs.Links.{IsPlain, SpellsNet}
 use Rattle.pn_command.specs.NetTree.{attribute, arc_tree, made, net_element, page_tree, place_tree, transition_tree, tree_of_net}
 use Rattle.pn_command.specs.Plain.{IsArc, IsId, IsLabel, IsPage, IsPlace, IsWritten, Page, PlainNet}
 use Rattle.pn_command.specs.PlainTree.{bare, is_written, text_tree, written_kids}
@@ -167,7 +167,7 @@ sound_net n is =
 pub sound_tree : (n : PlainNet) → IsWritten n → Sound 6 (tree_of_net n)
 sound_tree n is = sound_made 5 (codes "pnml") (root_space ∷ []) (net_element n ∷ []) refl refl refl (sound_net n is, tt)
 
-pub text_spells : (n : PlainNet) → IsPlain n → Spells n (canonical_text (tree_of_net n))
+pub text_spells : (n : PlainNet) → IsPlain n → SpellsNet n (canonical_text (tree_of_net n))
 text_spells n plain =
     let e = tree_of_net n in
     let sound = sound_tree n plain.written in

@@ -17,9 +17,9 @@ use Rattle.std.proofs.lemmas.Slice.Eq.{bytes_eq-Decides}
 use Rattle.pn_tree.specs.declared.element.Attr.{Attr}
 use Rattle.pn_command.specs.Plain.{Page, PlainNet, IsArc, IsId, IsLabel, IsPage, IsPlace, IsWritten, HasContent}
 use Rattle.pn_command.specs.Links.{IsLinked, IsPlain}
-use Rattle.pn_command.specs.NetTree.{attribute, label_kids, net_element, number_tree, page_tree, page_kids, tree_of_net, place_kid, transition_kid, arc_kid, place_tree, transition_tree, arc_tree}
+use Rattle.pn_command.specs.NetTree.{arc_with, attribute, label_kids, net_element, number_tree, page_tree, page_kids, tree_of_net, place_kid, transition_kid, arc_kid, place_tree, transition_tree, arc_tree}
 use Rattle.pn_command.specs.PlainTree.{AreLeading, HasText, IsInside, ReadsPart, bare, shown}
-use Rattle.pn_command.proofs.BareLemmas.{arc_with, bare_attrs, bare_is, bare_made, first_of, found, not_empty, one_attr, place_with, same_element, same_number, texted}
+use Rattle.pn_command.proofs.BareLemmas.{bare_attrs, bare_is, bare_made, first_of, found, not_empty, one_attr, place_with, same_element, same_number, texted}
 
 abbrev pub layer_named : List ℕ → layer.Child-F Child Element → Bool
 layer_named name (layer.Element e) = bytes_eq e.name name

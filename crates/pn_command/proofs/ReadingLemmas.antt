@@ -4,34 +4,23 @@ use Rattle.std.specs.Io.KnownBytes.{Consumes, IsAtEnd, Keeps}
 use Rattle.std.proofs.KnownBytes.{Consumes-nil, Consumes-trans, Consumes-kept}
 use Rattle.pn_outside.specs.Cause.{Rose}
 use Rattle.pn_outside.specs.declared.limits.TheConstants.{BYTES}
-use Rattle.pn_tree.specs.declared.element.Element.{Element}
-use Rattle.pn_markup.specs.Document.{IsDocument, IsFront, IsBreak}
+use Rattle.pn_markup.specs.Document.{IsFront, IsBreak}
 use Rattle.pn_scan.specs.declared.scanner.Scanner.{Scanner}
 use Rattle.pn_scan.specs.declared.scanner.ScanFault.{ScanFault}
 use Rattle.pn_scan.specs.declared.scanner.ScanFault.TheVariants as fault
-use Rattle.pn_scan.specs.Reading.{HasRead, IsOnlyFront, answer_of, fault_of}
-use Rattle.pn_scan.specs.Reading as scan
+use Rattle.pn_scan.specs.Reading.{HasRead, IsBroken, IsOnlyFront, IsTooLong, answer_of, fault_of}
+use Rattle.pn_command.specs.declared.input.Halt.TheVariants as halt
 use Rattle.pn_command.specs.declared.input.Stop.{Stop}
 use Rattle.pn_command.specs.declared.input.Scanned.{Scanned}
-use Rattle.pn_command.specs.declared.input.Scanned.TheVariants as scanned
-use Rattle.pn_command.specs.Answer.{IsTooLong, IsBroken}
-use Rattle.pn_command.specs.Reading.{IsBegun, IsScanned, ReadsNoFurther, Stopped, TakesBegun}
+use Rattle.pn_command.specs.Answer.{BreaksAt}
+use Rattle.pn_command.specs.Reading.{FaultSays, HaltSays, IsBegun, IsFed, IsScanned, ReadsNoFurther, Stopped, TakesBegun}
 use Rattle.pn_command.proofs.AnswerLemmas.{all_given}
 use Rattle.pn_command.proofs.BreakLemmas.{front_of_document, nothing_begins, shorter_front, take_front}
-
--- the scanner was fed what was taken of the source so far, and a document may begin so
-pub record ReadSoFar (s : Scanner) (old now : Option (List ℕ)) (count : ℕ) : Type 0 where
-  pub bytes : List ℕ
-  pub fed : HasRead s bytes
-  pub no_fault : fault_of s ≡ None
-  pub taken : Consumes old now bytes
-  pub begun : IsBegun bytes
-  pub size : count ≡ length bytes
 
 pub nothing_is_begun : IsBegun []
 nothing_is_begun = record { within = omega arith; front = nothing_begins }
 
-pub at_first : (s : Scanner) (a : Option (List ℕ)) → HasRead s [] → fault_of s ≡ None → ReadSoFar s a a 0
+pub at_first : (s : Scanner) (a : Option (List ℕ)) → HasRead s [] → fault_of s ≡ None → IsFed s a a 0
 at_first s a fed no_fault = record { bytes = []; fed = fed; no_fault = no_fault; taken = Consumes-nil a; begun = nothing_is_begun; size = refl }
 
 -- nothing was read
@@ -42,7 +31,7 @@ answered_ok : (o : Option ScanFault) → Ok tt ≡ answer_of o → o ≡ None
 answered_ok None e = refl
 answered_ok (Some f) e = cc
 
-module _ (s : Scanner) (a b : Option (List ℕ)) (n : ℕ) (so_far : ReadSoFar s a b n) where
+module _ (s : Scanner) (a b : Option (List ℕ)) (n : ℕ) (so_far : IsFed s a b n) where
   pub takes_begun : TakesBegun a b
   takes_begun = record { bytes = so_far.bytes; taken = so_far.taken; begun = so_far.begun }
 
@@ -50,10 +39,10 @@ module _ (s : Scanner) (a b : Option (List ℕ)) (n : ℕ) (so_far : ReadSoFar s
   within_limit = let size = so_far.size in let within = so_far.begun.within in omega arith
 
   -- the source kept what it had, or gave nothing
-  pub kept : (c : Option (List ℕ)) → Keeps b c → ReadSoFar s a c n
+  pub kept : (c : Option (List ℕ)) → Keeps b c → IsFed s a c n
   kept c keeps = record { bytes = so_far.bytes; fed = so_far.fed; no_fault = so_far.no_fault; taken = Consumes-kept a b c so_far.bytes so_far.taken keeps; begun = so_far.begun; size = so_far.size }
 
-  pub gave_nothing : (c : Option (List ℕ)) → Consumes b c [] → ReadSoFar s a c n
+  pub gave_nothing : (c : Option (List ℕ)) → Consumes b c [] → IsFed s a c n
   gave_nothing c none = record {
     bytes = so_far.bytes;
     fed = so_far.fed;
@@ -73,7 +62,7 @@ module _ (s : Scanner) (a b : Option (List ℕ)) (n : ℕ) (so_far : ReadSoFar s
 
   -- a piece more was read, and the scanner went on
   pub one_piece : (c : Option (List ℕ)) (next : Scanner) (piece : List ℕ) → Consumes b c piece → ((x : List ℕ) → HasRead s x → HasRead next (x ++ piece)) → Ok tt ≡ answer_of (fault_of next)
-      → ((x : List ℕ) → HasRead next x → fault_of next ≡ None → (length x ≤ BYTES) × IsFront x) → ReadSoFar next a c (n + length piece)
+      → ((x : List ℕ) → HasRead next x → fault_of next ≡ None → (length x ≤ BYTES) × IsFront x) → IsFed next a c (n + length piece)
   one_piece c next piece took fed answer goes =
       let no_fault = answered_ok (fault_of next) answer in
       let now = fed so_far.bytes so_far.fed in
@@ -87,7 +76,7 @@ module _ (s : Scanner) (a b : Option (List ℕ)) (n : ℕ) (so_far : ReadSoFar s
       }
 
 -- no more is read at the end
-pub nothing_more : (s : Scanner) (a b : Option (List ℕ)) (n : ℕ) → ReadSoFar s a b n → ReadsNoFurther a b
+pub nothing_more : (s : Scanner) (a b : Option (List ℕ)) (n : ℕ) → IsFed s a b n → ReadsNoFurther a b
 nothing_more s a b n so_far = no_further s a b n so_far b [] (Consumes-nil b) (omega arith)
 
 take_within : (k : ℕ) (b rest : List ℕ) → k ≤ length b → take k (b ++ rest) ≡ take k b
@@ -102,7 +91,7 @@ longer : (b rest : List ℕ) → length b ≤ length (b ++ rest)
 longer b rest = let size = length-append b rest in omega arith
 
 -- a break before the end stays the break, whatever follows
-broken_stays : (b rest : List ℕ) (k : ℕ) → IsBreak b k → k < length b → k < BYTES → IsBroken (b ++ rest) k
+broken_stays : (b rest : List ℕ) (k : ℕ) → IsBreak b k → k < length b → k < BYTES → BreaksAt (b ++ rest) k
 broken_stays b rest k p inside small =
     let more = longer b rest in
     let no = λ (f : IsFront (take (suc k) (b ++ rest))). p.no_more inside (subst IsFront (take_within (suc k) b rest (omega arith)) f) in
@@ -133,7 +122,7 @@ not_long : (k : ℕ) → fault.TooLong ≡ fault.Broken k → ⊥
 not_long k e = cc
 
 -- bytes within the limit that begin a document and are none end at their break
-ended_at : (b : List ℕ) (k : ℕ) → length b ≤ BYTES → k ≡ length b → IsOnlyFront b → IsBroken b k
+ended_at : (b : List ℕ) (k : ℕ) → length b ≤ BYTES → k ≡ length b → IsOnlyFront b → BreaksAt b k
 ended_at b k within is only = record {
   breaks = record { within = omega (arith, is); front = subst IsFront (sym (take_all k b (omega (arith, is)))) only.front; no_more = λ less f. absurd (omega (arith, is, less)) };
   no_document = only.none;
@@ -146,43 +135,47 @@ ended_at b k within is only = record {
     take_all (suc m) [] h = refl
     take_all (suc m) (x ∷ b) h = ap (λ l. x ∷ l) (take_all m b (omega arith))
 
-stopped_so : (bytes : List ℕ) (f : ScanFault) (r : Result Scanned Stop) (old : Option (List ℕ)) → Stopped f r
-    → ((k : ℕ) → f ≡ fault.Broken k → IfSome old (λ x. IsBroken x k)) → (f ≡ fault.TooLong → IfSome old (λ x. IsTooLong x)) → IfOk r (λ sc. IfSome old (λ x. IsScanned x sc))
-stopped_so bytes (fault.Memory e) r old is broken long = subst (λ (v : Result Scanned Stop). IfOk v (λ sc. IfSome old (λ x. IsScanned x sc))) (sym is) tt
-stopped_so bytes (fault.Broken k) r old is broken long = subst (λ (v : Result Scanned Stop). IfOk v (λ sc. IfSome old (λ x. IsScanned x sc))) (sym is) (broken k refl)
-stopped_so bytes fault.TooLong r old is broken long = subst (λ (v : Result Scanned Stop). IfOk v (λ sc. IfSome old (λ x. IsScanned x sc))) (sym is) (long refl)
+-- what a fault says, kind by kind
+fault_says : (f : ScanFault) (old : Option (List ℕ)) → ((k : ℕ) → f ≡ fault.Broken k → IfSome old (λ x. BreaksAt x k)) → (f ≡ fault.TooLong → IfSome old (λ x. IsTooLong x)) → IfSome old (FaultSays f)
+fault_says (fault.Memory e) None broken long = tt
+fault_says (fault.Memory e) (Some b) broken long = tt
+fault_says (fault.Broken k) old broken long = broken k refl
+fault_says fault.TooLong old broken long = long refl
 
-module _ (s : Scanner) (a b : Option (List ℕ)) (n : ℕ) (so_far : ReadSoFar s a b n) where
+-- and what is answered for it
+pub stopped_so : (f : ScanFault) (r : Result Scanned Stop) (old : Option (List ℕ)) → Stopped f r → IfSome old (FaultSays f) → IfOk r (λ sc. IfSome old (λ x. IsScanned x sc))
+stopped_so (fault.Memory e) r old is says = subst (λ (v : Result Scanned Stop). IfOk v (λ sc. IfSome old (λ x. IsScanned x sc))) (sym is) tt
+stopped_so (fault.Broken k) r old is says = subst (λ (v : Result Scanned Stop). IfOk v (λ sc. IfSome old (λ x. IsScanned x sc))) (sym is) says
+stopped_so fault.TooLong r old is says = subst (λ (v : Result Scanned Stop). IfOk v (λ sc. IfSome old (λ x. IsScanned x sc))) (sym is) says
+
+-- the input ends too early
+pub cut_off : (bytes : List ℕ) (f : ScanFault) (r : Result Scanned Stop) → length bytes ≤ BYTES → (f ≡ fault.Broken (length bytes)) × IsOnlyFront bytes → Stopped f r → IfOk r (IsScanned bytes)
+cut_off bytes f r within said is =
+    stopped_so f r (Some bytes) is
+    (fault_says f (Some bytes) (λ k same. ended_at bytes k within (broken_at k (length bytes) (sym same ∙ said.0)) said.1) (λ same. absurd (not_long (length bytes) (sym same ∙ said.0))))
+
+module _ (s : Scanner) (a b : Option (List ℕ)) (n : ℕ) (so_far : IsFed s a b n) where
   -- the scanner refused a piece
-  pub refused : (c : Option (List ℕ)) (next : Scanner) (piece : List ℕ) (f : ScanFault) (r : Result Scanned Stop) → Consumes b c piece → ((x : List ℕ) → HasRead s x → HasRead next (x ++ piece))
-      → ((x : List ℕ) (k : ℕ) → HasRead next x → failed f ≡ failed (fault.Broken k) → scan.IsBroken x k) → ((x : List ℕ) → HasRead next x → failed f ≡ failed fault.TooLong → scan.IsTooLong x)
-      → Stopped f r → IfOk r (λ sc. IfSome a (λ x. IsScanned x sc))
-  refused c next piece f r took fed broken long is =
+  pub refused : (c : Option (List ℕ)) (next : Scanner) (piece : List ℕ) (f : ScanFault) → Consumes b c piece → ((x : List ℕ) → HasRead s x → HasRead next (x ++ piece))
+      → ((x : List ℕ) (k : ℕ) → HasRead next x → failed f ≡ failed (fault.Broken k) → IsBroken x k) → ((x : List ℕ) → HasRead next x → failed f ≡ failed fault.TooLong → IsTooLong x)
+      → IfSome a (FaultSays f)
+  refused c next piece f took fed broken long =
       let whole = so_far.bytes ++ piece in
       let all = Consumes-trans a b c so_far.bytes piece so_far.taken took in
       let now = fed so_far.bytes so_far.fed in
-      stopped_so whole f r a is
-      (λ k same. let at = broken whole k now (ap failed same) in part_given a c whole (λ x. IsBroken x k) all (λ rest. broken_stays whole rest k at.is_break at.before_end at.before_limit))
+      fault_says f a
+      (λ k same. let at = broken whole k now (ap failed same) in part_given a c whole (λ x. BreaksAt x k) all (λ rest. broken_stays whole rest k at.is_break at.before_end at.before_limit))
       (λ same. let at = long whole now (ap failed same) in part_given a c whole (λ x. IsTooLong x) all (λ rest. long_stays whole rest at.longer at.front))
 
-  -- the input is a document
-  pub found_tree : (tree : Element) → IsAtEnd b → ((x : List ℕ) → fault_of s ≡ None → HasRead s x → IsDocument tree x) → IfSome a (λ x. IsScanned x (scanned.Document tree))
-  found_tree tree end answers =
-      all_given a b so_far.bytes (λ x. IsScanned x (scanned.Document tree)) so_far.taken end (answers so_far.bytes so_far.no_fault so_far.fed, so_far.begun.within)
+-- all of the input was fed
+pub all_fed : (s : Scanner) (a b : Option (List ℕ)) (n : ℕ) (r : Result Scanned Stop) → IsFed s a b n → IsAtEnd b → ((x : List ℕ) → HasRead s x → length x ≤ BYTES → IfOk r (IsScanned x)) → IfOk r (λ sc. IfSome a (λ x. IsScanned x sc))
+all_fed s a b n (Ok sc) so_far end says = all_given a b so_far.bytes (λ x. IsScanned x sc) so_far.taken end (says so_far.bytes so_far.fed so_far.begun.within)
+all_fed s a b n (Err stop) so_far end says = tt
 
-  -- the input ends too early
-  pub cut_off : (f : ScanFault) (r : Result Scanned Stop) → IsAtEnd b → ((x : List ℕ) → fault_of s ≡ None → HasRead s x → (f ≡ fault.Broken (length x)) × IsOnlyFront x) → Stopped f r
-      → IfOk r (λ sc. IfSome a (λ x. IsScanned x sc))
-  cut_off f r end answers is =
-      let said = answers so_far.bytes so_far.no_fault so_far.fed in
-      let within = so_far.begun.within in
-      stopped_so so_far.bytes f r a is
-      (λ k same. all_given a b so_far.bytes (λ x. IsBroken x k) so_far.taken end (ended_at so_far.bytes k within (broken_at k (length so_far.bytes) (sym same ∙ said.0)) said.1))
-      (λ same. absurd (not_long (length so_far.bytes) (sym same ∙ said.0)))
-
-pub if_some : {A : Type 0} (o : Option A) (P Q : A → Type 0) → ((x : A) → P x → Q x) → IfSome o P → IfSome o Q
-if_some None P Q f h = tt
-if_some (Some x) P Q f h = f x h
+-- of a failed read nothing is said
+pub nothing_said : (old : Option (List ℕ)) → IfSome old (HaltSays halt.Source)
+nothing_said None = tt
+nothing_said (Some bytes) = tt
 
 pub take_size : (n : ℕ) (xs : List ℕ) → n ≤ length xs → length (take n xs) ≡ n
 take_size zero xs h = refl

@@ -8,15 +8,15 @@ use Rattle.std.proofs.Math.Nat.{mod-lt}
 use Rattle.std.proofs.Math.Seq.{take-suc}
 use Rattle.std.specs.List.{list_all, flat_map}
 use Rattle.std.specs.Str.{bytes_eq}
-use Rattle.pn_tree.specs.Building.{Building, innermost, begun, at_innermost, with_text, with_kid, ended}
+use Rattle.pn_tree.specs.Building.{Building, innermost, begun, at_innermost, with_attr, with_text, with_kid, ended}
 use Rattle.pn_text.specs.Characters.{is_character, characters_of, utf8_of, is_text}
 use Rattle.pn_tree.specs.declared.element.Element.{Element}
 use Rattle.pn_tree.specs.declared.element.Child.{Child}
 use Rattle.pn_tree.specs.declared.element.Child.TheVariants as children
 use Rattle.pn_text.proofs.TextLemmas.{is_text-append}
-use Rattle.pn_command.specs.Building.{IsOpen, with_kids}
-use Rattle.pn_command.specs.NetTree.{made, number_tree}
-use Rattle.pn_command.specs.Plain.{is_id_byte, IsId}
+use Rattle.pn_command.specs.Building.{HasRoom, with_kids}
+use Rattle.pn_command.specs.NetTree.{made, net_element, number_tree, page_tree}
+use Rattle.pn_command.specs.Plain.{is_id_byte, IsId, Page}
 
 both_true : (a b : Bool) → (a && b) ≡ true → (a ≡ true) × (b ≡ true)
 both_true true b h = (refl, h)
@@ -94,6 +94,12 @@ ended_by root e (p ∷ ps) some = refl
 pub ended_inside : (b : Building) (e : Element) → IsSome (innermost b) → ended (record b { open_elements = e ∷ b.open_elements }) ≡ at_innermost (with_kid (children.Element e)) b
 ended_inside b e some = ended_by b.root e b.open_elements some
 
+-- the element `net`, added inside an open element
+pub net_added : (b : Building) (id : List ℕ) (p : Page) → IsSome (innermost b)
+    → ended (at_innermost (with_kid (children.Element (page_tree p))) (at_innermost (with_attr (codes "type") (codes "http://www.pnml.org/version-2009/grammar/ptnet")) (at_innermost (with_attr (codes "id") id) (begun (codes "net") 0 b))))
+    ≡ at_innermost (with_kid (children.Element (net_element (record { id = id; page = p })))) b
+net_added b id p some = ended_inside b (net_element (record { id = id; page = p })) some
+
 -- a text that is an element's only kid
 only_text : (name t : List ℕ) → 0 < length t → with_text t (made name [] []) ≡ made name [] (children.Text t ∷ [])
 only_text name [] some = absurd (omega arith)
@@ -139,7 +145,7 @@ open_by : (f : Element → Element) (root : Option Element) (es : List Element) 
 open_by f root [] some = cc
 open_by f root (e ∷ es) some = (refl, refl)
 
-pub open_still : (levels : ℕ) (f : Element → Element) (b : Building) → IsOpen levels b → IsOpen levels (at_innermost f b)
+pub open_still : (levels : ℕ) (f : Element → Element) (b : Building) → HasRoom levels b → HasRoom levels (at_innermost f b)
 open_still levels f b is = let still = open_by f b.root b.open_elements is.some in record { unended = is.unended; some = still.0; room = rw still.1 is.room }
 
 -- one more item's kid in a loop

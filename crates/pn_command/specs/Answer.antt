@@ -1,22 +1,26 @@
 -- The answer that is due for the words and the bytes of the input.
-use Rattle.std.specs.Prelude.{◌≡◌, ◌<◌, ◌≤◌, ℕ, List, [], length, take, codes, Option, MatchOption}
+use Rattle.std.specs.Prelude.{◌≡◌, ◌≤◌, ℕ, List, [], length, Option, MatchOption}
 use Rattle.pn_outside.specs.declared.limits.TheConstants.{BYTES}
 use Rattle.pn_outside.specs.Cause.{Rose}
 use Rattle.pn_outside.specs.Taking.{Takes, TakesFront}
-use Rattle.pn_tree.specs.Canonical.{canonical_text}
 use Rattle.pn_tree.specs.declared.element.Element.{Element}
-use Rattle.pn_markup.specs.Document.{IsBreak, IsDocument, IsFront}
+use Rattle.pn_markup.specs.Document.{IsBreak, IsDocument}
+use Rattle.pn_scan.specs.Reading.{IsTooLong}
 use Rattle.pn_command.specs.declared.words.Asked.{Asked}
-use Rattle.pn_command.specs.declared.words.Asked.TheVariants.{Check, Flatten, Step, Modes, Unfold, Trial}
 use Rattle.pn_command.specs.declared.status.Status.{Status}
 use Rattle.pn_command.specs.declared.status.Status.TheVariants as status
+use Rattle.pn_command.specs.declared.lines.Limit.{Limit}
+use Rattle.pn_command.specs.declared.lines.Limit.TheVariants as limits
+use Rattle.pn_command.specs.declared.lines.Refusal.{Refusal}
+use Rattle.pn_command.specs.declared.lines.Refusal.TheVariants as refusals
+use Rattle.pn_command.specs.declared.lines.Line.TheVariants as lines
 use Rattle.pn_command.specs.declared.due.Due.{Due}
 use Rattle.pn_command.specs.declared.due.Due.TheVariants as due
 use Rattle.pn_command.specs.Words.{asked_of}
 use Rattle.pn_command.specs.Plain.{PlainNet}
-use Rattle.pn_command.specs.Links.{Spells}
-use Rattle.pn_command.specs.Lines.{usage_line, broken_line, not_yet_line, limit_line, summary_of, summary_line}
-use Rattle.pn_command.specs.NetTree.{tree_of_net}
+use Rattle.pn_command.specs.Links.{SpellsNet}
+use Rattle.pn_command.specs.Lines.{line_text, status_of}
+use Rattle.pn_command.specs.Outputs.{IsOver, output_of, output_text}
 
 -- how a call ends, and what it writes
 pub record Answer : Type 0 where
@@ -24,30 +28,22 @@ pub record Answer : Type 0 where
   pub out : List ℕ
   pub err : List ℕ
 
--- a result on the standard output
-abbrev pub done_with : List ℕ → Answer
-done_with text = record { status = status.Done; out = text; err = [] }
-
--- a line on the standard error
-abbrev pub line_with : Status → List ℕ → Answer
-line_with s line = record { status = s; out = []; err = line }
-
+-- what is due as a status and the bytes for the two streams: a line goes to the standard error, with its status, an output to the standard output
 abbrev pub answer_of : Due → Answer
-answer_of due.Misused = line_with status.Usage usage_line
-answer_of due.TooLong = line_with status.Limit (limit_line (codes "input"))
-answer_of (due.Broken k) = line_with status.Refused (broken_line k)
-answer_of due.NotYet = line_with status.Refused not_yet_line
-answer_of due.OutputTooLong = line_with status.Limit (limit_line (codes "output"))
-answer_of (due.Summary s) = done_with (summary_line s)
-answer_of (due.Text t) = done_with (canonical_text t)
+answer_of (due.Line l) = record { status = status_of l; out = []; err = line_text l }
+answer_of (due.Output o) = record { status = status.Done; out = output_text o; err = [] }
 
--- the input is longer than it may be, and a document may begin with as much of it as may be
-pub record IsTooLong (bytes : List ℕ) : Type 0 where
-  pub longer : BYTES < length bytes
-  pub front : IsFront (take BYTES bytes)
+abbrev pub usage_due : Due
+usage_due = due.Line lines.Usage
+
+abbrev pub limit_due : Limit → Due
+limit_due l = due.Line (lines.Limit l)
+
+abbrev pub refusal_due : Refusal → Due
+refusal_due r = due.Line (lines.Refusal r)
 
 -- the input is no document, and is not refused as too long: this is its break
-pub record IsBroken (bytes : List ℕ) (k : ℕ) : Type 0 where
+pub record BreaksAt (bytes : List ℕ) (k : ℕ) : Type 0 where
   pub breaks : IsBreak bytes k
   pub no_document : (tree : Element) → IsDocument tree bytes → ⊥
   pub fits : IsTooLong bytes → ⊥
@@ -57,55 +53,28 @@ pub record IsOther (bytes : List ℕ) : Type 0 where
   pub tree : Element
   pub is_document : IsDocument tree bytes
   pub within : length bytes ≤ BYTES
-  pub no_net : (n : PlainNet) → Spells n bytes → ⊥
+  pub no_net : (n : PlainNet) → SpellsNet n bytes → ⊥
 
 -- the input is within its limit and spells this net
 pub record IsInput (n : PlainNet) (bytes : List ℕ) : Type 0 where
   pub within : length bytes ≤ BYTES
-  pub spells : Spells n bytes
+  pub spells : SpellsNet n bytes
 
--- what `check` answers for a plain net: its summary
-abbrev pub AnswersCheck : PlainNet → Due → Type 0
-AnswersCheck n due.Misused = ⊥
-AnswersCheck n due.TooLong = ⊥
-AnswersCheck n (due.Broken k) = ⊥
-AnswersCheck n due.NotYet = ⊥
-AnswersCheck n due.OutputTooLong = ⊥
-AnswersCheck n (due.Summary s) = s ≡ summary_of n
-AnswersCheck n (due.Text t) = ⊥
+-- what is due for a command and a net: a line where its output is longer than it may be, else the output
+pub data IsDueForNet (asked : Asked) (n : PlainNet) (d : Due) : Type 0 where
+  output_too_long : IsOver (output_of asked n) → d ≡ limit_due limits.Output → IsDueForNet asked n d
+  given : (IsOver (output_of asked n) → ⊥) → d ≡ due.Output (output_of asked n) → IsDueForNet asked n d
 
--- what `flatten` answers for a plain net: the canonical text of its tree, where that is not too long
-abbrev pub AnswersFlatten : PlainNet → Due → Type 0
-AnswersFlatten n due.Misused = ⊥
-AnswersFlatten n due.TooLong = ⊥
-AnswersFlatten n (due.Broken k) = ⊥
-AnswersFlatten n due.NotYet = ⊥
-AnswersFlatten n due.OutputTooLong = BYTES < length (canonical_text (tree_of_net n))
-AnswersFlatten n (due.Summary s) = ⊥
-AnswersFlatten n (due.Text t) = (t ≡ tree_of_net n) × (length (canonical_text t) ≤ BYTES)
-
--- what a command answers for a plain net
-abbrev pub AnswersNet : Asked → PlainNet → Due → Type 0
-AnswersNet Check n d = AnswersCheck n d
-AnswersNet Flatten n d = AnswersFlatten n d
-AnswersNet Step n d = ⊥
-AnswersNet Modes n d = ⊥
-AnswersNet Unfold n d = ⊥
-AnswersNet (Trial k) n d = ⊥
-
--- what is due for a command: a line where the input is too long, is no document or spells no plain net, else its answer for the net
-abbrev pub IsDueFor : Asked → List ℕ → Due → Type 0
-IsDueFor asked bytes due.Misused = ⊥
-IsDueFor asked bytes due.TooLong = IsTooLong bytes
-IsDueFor asked bytes (due.Broken k) = IsBroken bytes k
-IsDueFor asked bytes due.NotYet = IsOther bytes
-IsDueFor asked bytes due.OutputTooLong = (n : PlainNet) × IsInput n bytes × AnswersNet asked n due.OutputTooLong
-IsDueFor asked bytes (due.Summary s) = (n : PlainNet) × IsInput n bytes × AnswersNet asked n (due.Summary s)
-IsDueFor asked bytes (due.Text t) = (n : PlainNet) × IsInput n bytes × AnswersNet asked n (due.Text t)
+-- what is due for a command and the bytes of the input, a case for each kind of input: one that is too long, no document, a document that is not read yet, a net
+pub data IsDueFor (asked : Asked) (bytes : List ℕ) (d : Due) : Type 0 where
+  input_too_long : IsTooLong bytes → d ≡ limit_due limits.Input → IsDueFor asked bytes d
+  broken : (k : ℕ) → BreaksAt bytes k → d ≡ refusal_due (refusals.Broken k) → IsDueFor asked bytes d
+  not_yet : IsOther bytes → d ≡ refusal_due refusals.NotYet → IsDueFor asked bytes d
+  for_net : (n : PlainNet) → IsInput n bytes → IsDueForNet asked n d → IsDueFor asked bytes d
 
 -- what is due for the words and the bytes: the usage line where the words ask for nothing
 abbrev pub IsDue : List (List ℕ) → List ℕ → Due → Type 0
-IsDue words bytes d = MatchOption (asked_of words) (d ≡ due.Misused) (λ asked. IsDueFor asked bytes d)
+IsDue words bytes d = MatchOption (asked_of words) (d ≡ usage_due) (λ asked. IsDueFor asked bytes d)
 
 -- this is due, and nothing else is
 pub record IsTheDue (words : List (List ℕ)) (bytes : List ℕ) (d : Due) : Type 0 where
@@ -131,16 +100,6 @@ IsAnswer status.ReadFault = ⊥
 IsAnswer status.WriteFault = ⊥
 IsAnswer status.OutOfMemory = ⊥
 IsAnswer status.Limit = Unit {0}
-
--- the statuses that come with a line on the standard error
-abbrev pub IsLine : Status → Type 0
-IsLine status.Done = ⊥
-IsLine status.Refused = Unit {0}
-IsLine status.Usage = Unit {0}
-IsLine status.ReadFault = ⊥
-IsLine status.WriteFault = ⊥
-IsLine status.OutOfMemory = ⊥
-IsLine status.Limit = Unit {0}
 
 module _ {O E : Type 0} (taken_out : O → Option (List ℕ)) (number_out : O → Option ℕ) (taken_err : E → Option (List ℕ)) (number_err : E → Option ℕ) where
   -- a call ended with this answer

@@ -1,10 +1,10 @@
 pub mod Plain
 pub mod PlainTree
 pub mod Links
-pub mod Index
 pub mod NetTree
 pub mod Building
 pub mod Words
 pub mod Lines
+pub mod Outputs
 pub mod Answer
 pub mod Reading

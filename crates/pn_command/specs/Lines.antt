@@ -1,9 +1,14 @@
--- The lines that the program writes.
-use Rattle.std.specs.Prelude.{ℕ, List, ◌++◌, codes, decimal, length, sum_by, unwrap_or}
+-- The lines on the standard error, and the status with which each comes.
+use Rattle.std.specs.Prelude.{ℕ, List, ◌++◌, codes, decimal}
 use Rattle.pn_outside.specs.declared.limits.TheConstants.{BYTES}
-use Rattle.pn_command.specs.declared.plain.net.Place.{Place}
-use Rattle.pn_command.specs.declared.lines.Summary.{Summary}
-use Rattle.pn_command.specs.Plain.{Page, PlainNet}
+use Rattle.pn_command.specs.declared.lines.Limit.{Limit}
+use Rattle.pn_command.specs.declared.lines.Limit.TheVariants as limits
+use Rattle.pn_command.specs.declared.lines.Refusal.{Refusal}
+use Rattle.pn_command.specs.declared.lines.Refusal.TheVariants as refusals
+use Rattle.pn_command.specs.declared.lines.Line.{Line}
+use Rattle.pn_command.specs.declared.lines.Line.TheVariants as lines
+use Rattle.pn_command.specs.declared.status.Status.{Status}
+use Rattle.pn_command.specs.declared.status.Status.TheVariants as status
 
 -- a label and the number behind it
 abbrev pub count_text : List ℕ → ℕ → List ℕ
@@ -12,34 +17,37 @@ count_text label n = label ++ decimal n
 abbrev pub usage_line : List ℕ
 usage_line = codes "pnml: usage: check, flatten, step MODE (one or more), modes T, unfold, trial N\n"
 
-abbrev pub not_yet_line : List ℕ
-not_yet_line = codes "pnml: not yet\n"
+-- the line for what is longer than it may be
+abbrev pub longer_line : List ℕ → List ℕ
+longer_line what = count_text (codes "pnml: limit: " ++ (what ++ codes " longer than ")) BYTES ++ codes " bytes\n"
 
--- the line for an input that is no document, with its break
-abbrev pub broken_line : ℕ → List ℕ
-broken_line k = count_text (codes "pnml: byte ") k ++ codes ": broken\n"
+-- the line for a limit that is passed
+abbrev pub limit_line : Limit → List ℕ
+limit_line limits.Input = longer_line (codes "input")
+limit_line limits.Output = longer_line (codes "output")
 
--- the line for an input or an output that is longer than it may be
-abbrev pub limit_line : List ℕ → List ℕ
-limit_line what = count_text (codes "pnml: limit: " ++ (what ++ codes " longer than ")) BYTES ++ codes " bytes\n"
+-- the line for an input that is refused
+abbrev pub refusal_line : Refusal → List ℕ
+refusal_line (refusals.Broken k) = count_text (codes "pnml: byte ") k ++ codes ": broken\n"
+refusal_line refusals.NotYet = codes "pnml: not yet\n"
 
--- the tokens of a place at first: none where no marking is written
-abbrev pub tokens_of : Place → ℕ
-tokens_of p = unwrap_or p.marking 0
+abbrev pub line_text : Line → List ℕ
+line_text lines.Usage = usage_line
+line_text (lines.Limit l) = limit_line l
+line_text (lines.Refusal r) = refusal_line r
 
--- how many places, transitions, arcs and tokens a page has
-abbrev pub summary_of_page : Page → Summary
-summary_of_page p = record {
-  places = length p.places;
-  transitions = length p.transitions;
-  arcs = length p.arcs;
-  tokens = sum_by tokens_of p.places;
-}
+-- the status with which a line comes
+abbrev pub status_of : Line → Status
+status_of lines.Usage = status.Usage
+status_of (lines.Limit l) = status.Limit
+status_of (lines.Refusal r) = status.Refused
 
-abbrev pub summary_of : PlainNet → Summary
-summary_of n = summary_of_page n.page
-
-abbrev pub summary_line : Summary → List ℕ
-summary_line s =
-    count_text (codes "ptnet places ") s.places
-    ++ (count_text (codes " transitions ") s.transitions ++ (count_text (codes " arcs ") s.arcs ++ (count_text (codes " tokens ") s.tokens ++ codes "\n")))
+-- the statuses that come with a line on the standard error
+abbrev pub IsLine : Status → Type 0
+IsLine status.Done = ⊥
+IsLine status.Refused = Unit {0}
+IsLine status.Usage = Unit {0}
+IsLine status.ReadFault = ⊥
+IsLine status.WriteFault = ⊥
+IsLine status.OutOfMemory = ⊥
+IsLine status.Limit = Unit {0}

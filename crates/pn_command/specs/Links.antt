@@ -1,7 +1,7 @@
 -- What the ids of a plain net name, and how its arcs join its nodes.
-use Rattle.std.specs.Prelude.{◌≡◌, ℕ, List, [], ◌∷◌, ◌++◌, Bool, true, false, map, IsTrue, Option, None, Some, if◌then◌else◌}
+use Rattle.std.specs.Prelude.{◌≡◌, ℕ, List, ◌∷◌, ◌++◌, Bool, true, false, map, IsTrue, Option, Some}
 use Rattle.std.specs.List.{list_all}
-use Rattle.std.specs.Str.{bytes_eq}
+use Rattle.pn_ids.specs.Names.{named_in, AreDistinct}
 use Rattle.pn_command.specs.declared.plain.net.Role.{Role}
 use Rattle.pn_command.specs.declared.plain.net.Role.TheVariants as role
 use Rattle.pn_command.specs.declared.plain.net.Place.{Place}
@@ -30,21 +30,6 @@ page_names p = (p.id, role.Page) ∷ (map place_name p.places ++ (map transition
 abbrev pub names_of : PlainNet → List (List ℕ × Role)
 names_of n = (n.id, role.Net) ∷ page_names n.page
 
--- what an id names: the first element that has it
-abbrev pub role_in : List (List ℕ × Role) → List ℕ → Option Role
-role_in [] id = None
-role_in (n ∷ ns) id = if bytes_eq id n.0 then Some n.1 else role_in ns id
-
--- no id is given twice
-abbrev pub AreDistinct : List (List ℕ × Role) → Type 0
-AreDistinct [] = Unit {0}
-AreDistinct (n ∷ ns) = (role_in ns n.0 ≡ None) × AreDistinct ns
-
--- these names were noted after the old ones, and none of them was there; or some was
-abbrev pub NotesAll : List (List ℕ × Role) → List (List ℕ × Role) → List (List ℕ × Role) → Bool → Type 0
-NotesAll old new names true = (new ≡ old ++ names) × (AreDistinct old → AreDistinct (old ++ names))
-NotesAll old new names false = (more : List (List ℕ × Role)) → AreDistinct (old ++ (names ++ more)) → ⊥
-
 -- a place and a transition, in either order
 abbrev pub are_ends : Option Role → Option Role → Bool
 are_ends (Some role.Place) (Some role.Transition) = true
@@ -53,7 +38,7 @@ are_ends _ _ = false
 
 -- an arc joins a place and a transition
 abbrev pub joins : List (List ℕ × Role) → Arc → Bool
-joins names a = are_ends (role_in names a.source) (role_in names a.target)
+joins names a = are_ends (named_in names a.source) (named_in names a.target)
 
 -- all ids are distinct, and each arc joins a place and a transition of the page
 pub record IsLinked (n : PlainNet) : Type 0 where
@@ -66,7 +51,7 @@ pub record IsPlain (n : PlainNet) : Type 0 where
   pub linked : IsLinked n
 
 -- the bytes are a document, whose tree is that of the plain net but for white space between its elements
-pub record Spells (n : PlainNet) (bytes : List ℕ) : Type 0 where
+pub record SpellsNet (n : PlainNet) (bytes : List ℕ) : Type 0 where
   pub plain : IsPlain n
   pub tree : Element
   pub is_document : IsDocument tree bytes

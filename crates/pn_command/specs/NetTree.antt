@@ -30,6 +30,10 @@ place_tree p = made (codes "place") (attribute (codes "id") p.id ∷ []) (label_
 abbrev pub transition_tree : List ℕ → Element
 transition_tree id = made (codes "transition") (attribute (codes "id") id ∷ []) []
 
+-- the arc with these parts
+abbrev pub arc_with : List ℕ → List ℕ → List ℕ → Option ℕ → Arc
+arc_with id source target weight = record { id = id; source = source; target = target; weight = weight }
+
 abbrev pub arc_tree : Arc → Element
 arc_tree a = made (codes "arc") (attribute (codes "id") a.id ∷ attribute (codes "source") a.source ∷ attribute (codes "target") a.target ∷ []) (label_kids (codes "inscription") a.weight)
 

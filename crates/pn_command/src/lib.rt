@@ -5,6 +5,7 @@ mod due;
 mod input;
 pub mod laws;
 mod lines;
+mod outputs;
 mod plain;
 mod status;
 mod top;
@@ -13,6 +14,3 @@ mod words;
 pub use status::Status;
 pub use top::run;
 pub use words::{Asked, asks};
-
-#[cfg(test)]
-mod tests;

@@ -1,34 +1,67 @@
-//! The lines that the program writes.
+//! The lines that the program writes to the standard error, where it does not give what was asked
+//! for.
 
-ghost use Rattle.std.specs.Prelude.{◌≡◌, ◌++◌, codes, decimal};
+ghost use Rattle.std.specs.Prelude.{◌≡◌, ◌++◌, codes, OnOk};
 ghost use Rattle.pn_outside.specs.Cause.{HasCause};
 ghost use Rattle.pn_outside.specs.Taking.{Puts};
-ghost use Rattle.pn_command.specs.Lines.{broken_line, count_text, summary_line};
+ghost use Rattle.pn_outside.specs.declared.limits.TheConstants.{BYTES};
+ghost use Rattle.pn_command.specs.Lines.{IsLine, count_text, limit_line, line_text, refusal_line, status_of};
 
+use crate::Status;
 use itoa::{Buffer, Integer};
 use pn_outside::limits::BYTES;
 use pn_outside::{Failed, Sink, put_text};
 
-pub(crate) const USAGE: &str =
+const USAGE: &str =
     "pnml: usage: check, flatten, step MODE (one or more), modes T, unfold, trial N\n";
 
-pub(crate) const NOT_YET: &str = "pnml: not yet\n";
+/// A limit that is passed.
+#[derive(Debug, Drop)]
+pub(crate) enum Limit {
+    /// The input is too long.
+    Input,
+    /// The output would be too long.
+    Output,
+}
 
-pub(crate) const INPUT_LIMIT: &str = "pnml: limit: input longer than ";
+/// Why the input is refused.
+#[derive(Debug, Drop)]
+pub(crate) enum Refusal {
+    /// It is no document, with its break.
+    Broken(u64),
+    /// It is a document that is not read yet.
+    NotYet,
+}
 
-pub(crate) const OUTPUT_LIMIT: &str = "pnml: limit: output longer than ";
+/// A line on the standard error.
+#[derive(Debug, Drop)]
+pub(crate) enum Line {
+    /// The words ask for nothing.
+    Usage,
+    Limit(Limit),
+    Refusal(Refusal),
+}
 
-/// How many places, transitions, arcs and initial tokens a net has.
-#[derive(Clone, Copy, Debug, PartialEq, Eq)]
-pub(crate) struct Summary {
-    pub(crate) places: usize,
-    pub(crate) transitions: usize,
-    pub(crate) arcs: usize,
-    pub(crate) tokens: u128,
+impl Line {
+    /// How a call with this line ends.
+    pub(crate) fn status(&self) -> Status
+        ensures status { result ≡ status_of self.now }
+        ensures line { IsLine result }
+    {
+        match self {
+            Line::Usage => Status::Usage,
+            Line::Limit(_) => Status::Limit,
+            Line::Refusal(_) => Status::Refused,
+        }
+    }
 }
 
 /// Puts a label and the number behind it.
-fn put_count<K: Sink, N: Integer>(sink: &mut K, label: &str, number: N) -> Result<(), Failed>
+pub(crate) fn put_count<K: Sink, N: Integer>(
+    sink: &mut K,
+    label: &str,
+    number: N,
+) -> Result<(), Failed>
     ensures puts { Puts K.taken K.number result sink.old sink.new (label.now ++ N.text number) }
     ensures cause { HasCause (K.faults sink.old) (K.faults sink.new) result }
 {
@@ -37,8 +70,8 @@ fn put_count<K: Sink, N: Integer>(sink: &mut K, label: &str, number: N) -> Resul
     put_text(sink, digits.format(number))
 }
 
-/// Puts the line for an input or an output that is longer than it may be.
-pub(crate) fn put_limit<K: Sink>(sink: &mut K, label: &str) -> Result<(), Failed>
+/// Puts the line for what is longer than it may be.
+fn put_longer<K: Sink>(sink: &mut K, label: &str) -> Result<(), Failed>
     ensures puts { Puts K.taken K.number result sink.old sink.new (count_text label.now BYTES ++ codes " bytes\n") }
     ensures cause { HasCause (K.faults sink.old) (K.faults sink.new) result }
 {
@@ -46,23 +79,55 @@ pub(crate) fn put_limit<K: Sink>(sink: &mut K, label: &str) -> Result<(), Failed
     put_text(sink, " bytes\n")
 }
 
+/// Puts the line for a limit that is passed.
+fn put_limit<K: Sink>(sink: &mut K, limit: &Limit) -> Result<(), Failed>
+    ensures puts { Puts K.taken K.number result sink.old sink.new (limit_line limit.now) }
+    ensures cause { HasCause (K.faults sink.old) (K.faults sink.new) result }
+{
+    match limit {
+        Limit::Input => put_longer(sink, "pnml: limit: input longer than "),
+        Limit::Output => put_longer(sink, "pnml: limit: output longer than "),
+    }
+}
+
 /// Puts the line for an input that is no document, with its break.
-pub(crate) fn put_broken<K: Sink>(sink: &mut K, at: u64) -> Result<(), Failed>
-    ensures puts { Puts K.taken K.number result sink.old sink.new (broken_line at) }
+fn put_broken<K: Sink>(sink: &mut K, at: u64) -> Result<(), Failed>
+    ensures puts { Puts K.taken K.number result sink.old sink.new (count_text (codes "pnml: byte ") at ++ codes ": broken\n") }
     ensures cause { HasCause (K.faults sink.old) (K.faults sink.new) result }
 {
     put_count(sink, "pnml: byte ", at)?;
     put_text(sink, ": broken\n")
 }
 
-/// Puts the line that sums a net up.
-pub(crate) fn put_summary<K: Sink>(sink: &mut K, summary: Summary) -> Result<(), Failed>
-    ensures puts { Puts K.taken K.number result sink.old sink.new (summary_line summary) }
+/// Puts the line for an input that is refused.
+fn put_refusal<K: Sink>(sink: &mut K, refusal: &Refusal) -> Result<(), Failed>
+    ensures puts { Puts K.taken K.number result sink.old sink.new (refusal_line refusal.now) }
     ensures cause { HasCause (K.faults sink.old) (K.faults sink.new) result }
 {
-    put_count(sink, "ptnet places ", summary.places)?;
-    put_count(sink, " transitions ", summary.transitions)?;
-    put_count(sink, " arcs ", summary.arcs)?;
-    put_count(sink, " tokens ", summary.tokens)?;
-    put_text(sink, "\n")
+    match refusal {
+        Refusal::Broken(at) => put_broken(sink, *at),
+        Refusal::NotYet => put_text(sink, "pnml: not yet\n"),
+    }
+}
+
+/// Puts a line.
+fn put_line<K: Sink>(sink: &mut K, line: &Line) -> Result<(), Failed>
+    ensures puts { Puts K.taken K.number result sink.old sink.new (line_text line.now) }
+    ensures cause { HasCause (K.faults sink.old) (K.faults sink.new) result }
+{
+    match line {
+        Line::Usage => put_text(sink, USAGE),
+        Line::Limit(limit) => put_limit(sink, limit),
+        Line::Refusal(refusal) => put_refusal(sink, refusal),
+    }
+}
+
+/// Writes a line and passes it on.
+pub(crate) fn write_line<K: Sink>(sink: &mut K, line: &Line) -> Result<(), Failed>
+    ensures puts { Puts K.taken K.number result sink.old sink.new (line_text line.now) }
+    ensures settled { OnOk result (K.settled sink.new) }
+    ensures cause { HasCause (K.faults sink.old) (K.faults sink.new) result }
+{
+    put_line(sink, line)?;
+    sink.done()
 }

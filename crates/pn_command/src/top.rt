@@ -1,75 +1,20 @@
 //! The top call.
 
-ghost use Rattle.std.specs.Prelude.{◌≡◌, ◌≤◌, ◌⊎◌, ◌++◌, codes, IfSome, OnOk, OnErr, Err, None, map, string_bytes};
+ghost use Rattle.std.specs.Prelude.{◌≡◌, ◌≤◌, ◌⊎◌, IfSome, OnOk, OnErr, Err, None, map, string_bytes};
 ghost use Rattle.std.specs.Io.KnownBytes.{IsAtEnd};
-ghost use Rattle.pn_outside.specs.Cause.{Rose, HasCause};
-ghost use Rattle.pn_outside.specs.Taking.{Puts};
-ghost use Rattle.pn_outside.specs.declared.limits.TheConstants.{BYTES};
-ghost use Rattle.pn_tree.specs.Canonical.{canonical_text};
-ghost use Rattle.pn_command.specs.Answer.{Answers, Begins, EachAnswer, ForAnswer, IsAnswer, IsLine, RoseWhereDue, answer_of};
-ghost use Rattle.pn_command.specs.Lines.{broken_line, count_text, summary_line};
+ghost use Rattle.pn_outside.specs.Cause.{Rose};
+ghost use Rattle.pn_command.specs.Answer.{Answers, Begins, EachAnswer, ForAnswer, IsAnswer, RoseWhereDue, answer_of};
+ghost use Rattle.pn_command.specs.Lines.{IsLine};
 ghost use Rattle.pn_command.specs.Reading.{ReadsNoFurther, TakesBegun};
 ghost use Rattle.pn_command.specs.Words.{asked_of};
 
 use crate::Status;
 use crate::due::{Due, decide};
 use crate::input::Stop;
-use crate::lines::{
-    INPUT_LIMIT, NOT_YET, OUTPUT_LIMIT, Summary, USAGE, put_broken, put_limit, put_summary,
-};
-use pn_outside::{Failed, Sink, Source, put_text};
-use pn_tree::{Tree, put_tree};
+use crate::lines::write_line;
+use crate::outputs::write_output;
+use pn_outside::{Failed, Sink, Source};
 use std::alloc::Global;
-
-/// Writes a line and passes it on.
-fn write_line<K: Sink>(sink: &mut K, line: &str) -> Result<(), Failed>
-    ensures puts { Puts K.taken K.number result sink.old sink.new line.now }
-    ensures settled { OnOk result (K.settled sink.new) }
-    ensures cause { HasCause (K.faults sink.old) (K.faults sink.new) result }
-{
-    put_text(sink, line)?;
-    sink.done()
-}
-
-/// Writes the line that sums a net up, and passes it on.
-fn write_summary<K: Sink>(sink: &mut K, summary: Summary) -> Result<(), Failed>
-    ensures puts { Puts K.taken K.number result sink.old sink.new (summary_line summary) }
-    ensures settled { OnOk result (K.settled sink.new) }
-    ensures cause { HasCause (K.faults sink.old) (K.faults sink.new) result }
-{
-    put_summary(sink, summary)?;
-    sink.done()
-}
-
-/// Writes the line for an input that is no document, with its break, and passes it on.
-fn write_broken<K: Sink>(sink: &mut K, at: u64) -> Result<(), Failed>
-    ensures puts { Puts K.taken K.number result sink.old sink.new (broken_line at) }
-    ensures settled { OnOk result (K.settled sink.new) }
-    ensures cause { HasCause (K.faults sink.old) (K.faults sink.new) result }
-{
-    put_broken(sink, at)?;
-    sink.done()
-}
-
-/// Writes the line for an input or an output that is too long, and passes it on.
-fn write_limit<K: Sink>(sink: &mut K, label: &str) -> Result<(), Failed>
-    ensures puts { Puts K.taken K.number result sink.old sink.new (count_text label.now BYTES ++ codes " bytes\n") }
-    ensures settled { OnOk result (K.settled sink.new) }
-    ensures cause { HasCause (K.faults sink.old) (K.faults sink.new) result }
-{
-    put_limit(sink, label)?;
-    sink.done()
-}
-
-/// Writes the canonical text of a tree, and passes it on.
-fn write_tree<K: Sink>(sink: &mut K, tree: &Tree) -> Result<(), Failed>
-    ensures puts { Puts K.taken K.number result sink.old sink.new (canonical_text tree.now) }
-    ensures settled { OnOk result (K.settled sink.new) }
-    ensures cause { HasCause (K.faults sink.old) (K.faults sink.new) result }
-{
-    put_tree(tree, sink)?;
-    sink.done()
-}
 
 /// The status where what is due was written, or where a write failed.
 fn ended(written: Result<(), Failed>, status: Status) -> Status
@@ -83,23 +28,18 @@ fn ended(written: Result<(), Failed>, status: Status) -> Status
 }
 
 /// Writes what is due, and says how that ended.
-fn deliver<O: Sink, E: Sink>(due: Due, out: &mut O, err: &mut E) -> Status
-    ensures answered { IsAnswer result → Answers O.taken O.number E.taken E.number result out.old out.new err.old err.new (answer_of due) }
-    ensures begun { Begins O.taken O.number E.taken E.number out.old out.new err.old err.new (answer_of due) }
-    ensures ends { (result ≡ (answer_of due).status) ⊎ (result ≡ Status.WriteFault) }
-    ensures write_fault { result ≡ Status.WriteFault → RoseWhereDue (answer_of due).status (O.faults out.old) (O.faults out.new) (E.faults err.old) (E.faults err.new) }
+fn deliver<O: Sink, E: Sink>(due: &Due, out: &mut O, err: &mut E) -> Status
+    ensures answered { IsAnswer result → Answers O.taken O.number E.taken E.number result out.old out.new err.old err.new (answer_of due.now) }
+    ensures begun { Begins O.taken O.number E.taken E.number out.old out.new err.old err.new (answer_of due.now) }
+    ensures ends { (result ≡ (answer_of due.now).status) ⊎ (result ≡ Status.WriteFault) }
+    ensures write_fault { result ≡ Status.WriteFault → RoseWhereDue (answer_of due.now).status (O.faults out.old) (O.faults out.new) (E.faults err.old) (E.faults err.new) }
     ensures done { result ≡ Status.Done → O.settled out.new × (err.new ≡ err.old) }
     ensures line { IsLine result → E.settled err.new × (out.new ≡ out.old) }
     ensures later { (O.faults out.old ≤ O.faults out.new) × (E.faults err.old ≤ E.faults err.new) }
 {
     match due {
-        Due::Misused => ended(write_line(err, USAGE), Status::Usage),
-        Due::TooLong => ended(write_limit(err, INPUT_LIMIT), Status::Limit),
-        Due::Broken(at) => ended(write_broken(err, at), Status::Refused),
-        Due::NotYet => ended(write_line(err, NOT_YET), Status::Refused),
-        Due::OutputTooLong => ended(write_limit(err, OUTPUT_LIMIT), Status::Limit),
-        Due::Summary(summary) => ended(write_summary(out, summary), Status::Done),
-        Due::Text(tree) => ended(write_tree(out, &tree), Status::Done),
+        Due::Line(line) => ended(write_line(err, line), line.status()),
+        Due::Output(output) => ended(write_output(out, output), Status::Done),
     }
 }
 
@@ -152,7 +92,7 @@ pub fn run<S: Source, T: Source, O: Sink, E: Sink>(
     ensures side { side.new ≡ side.old }
 {
     match decide(alloc, words, source) {
-        Ok(due) => deliver(due, out, err),
+        Ok(due) => deliver(&due, out, err),
         Err(Stop::Fault) => Status::ReadFault,
         Err(Stop::Memory) => Status::OutOfMemory,
     }

@@ -4,12 +4,10 @@ ghost use Rattle.pn_command.specs.Words.{asked_of};
 /// What the words of the command line ask for.
 #[derive(Clone, Copy, Debug, PartialEq, Eq)]
 pub enum Asked {
+    /// The summary of a net.
     Check,
+    /// The canonical text of a net.
     Flatten,
-    Step,
-    Modes,
-    Unfold,
-    Trial(u32),
 }
 
 /// What these words ask for, where they ask for something. A command that is not built yet is

@@ -3,7 +3,7 @@
 ghost use Rattle.std.specs.Prelude.{◌≡◌, ◌<◌, length, map, slice_get, Some, IfOk, MatchOption};
 ghost use Rattle.std.specs.List.{list_all};
 ghost use Rattle.pn_tree.specs.Views.{element_of};
-ghost use Rattle.pn_command.specs.NetTree.{attribute, arc_kid, arc_tree, place_kid, place_tree, transition_kid, transition_tree};
+ghost use Rattle.pn_command.specs.NetTree.{attribute, arc_kid, arc_tree, arc_with, place_kid, place_tree, transition_kid, transition_tree};
 ghost use Rattle.pn_command.specs.Plain.{IsArc, IsId, IsPlace, is_id, is_id_byte};
 ghost use Rattle.pn_command.specs.PlainTree.{AreParts, HasNoParts, LacksId, ReadsPart, bare, shown};
 
@@ -84,6 +84,27 @@ fn transition(alloc: Global, view: View<'_>) -> Result<Option<Text>, AllocError>
     Ok(Some(id))
 }
 
+/// The arc of this id, between these ends.
+fn new_arc(
+    alloc: Global,
+    id: &str,
+    source: &str,
+    target: &str,
+    weight: Option<u64>,
+) -> Result<Arc, AllocError>
+    ensures { IfOk result (λ a. a ≡ arc_with id.now source.now target.now weight) }
+{
+    let id = Text::from_str(alloc, id)?;
+    let source = Text::from_str(alloc, source)?;
+    let target = Text::from_str(alloc, target)?;
+    Ok(Arc {
+        id,
+        source,
+        target,
+        weight,
+    })
+}
+
 /// The arc that an element is.
 fn arc(alloc: Global, view: View<'_>) -> Result<Option<Arc>, AllocError>
     ensures { IfOk result (ReadsPart IsArc arc_tree (bare (element_of view.entry))) }
@@ -106,15 +127,7 @@ fn arc(alloc: Global, view: View<'_>) -> Result<Option<Arc>, AllocError>
     let Some(weight) = label(alloc, &inside, "inscription", 1)? else {
         return Ok(None);
     };
-    let id = Text::from_str(alloc, id)?;
-    let source = Text::from_str(alloc, source)?;
-    let target = Text::from_str(alloc, target)?;
-    let arc = Arc {
-        id,
-        source,
-        target,
-        weight,
-    };
+    let arc = new_arc(alloc, id, source, target, weight)?;
     Ok(Some(arc))
 }
 

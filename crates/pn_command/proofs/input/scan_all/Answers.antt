@@ -1,97 +1,15 @@
-use Rattle.std.proofs.Common.{◌+◌, take, subst, arith}
-use Rattle.std.specs.Io.KnownBytes.{Consumes}
-use Rattle.pn_command.proofs.ReadingLemmas.{ReadSoFar, at_first, cut_off, found_tree, gave_nothing, kept, no_further, nothing_more, one_piece, refused, rose_before, take_size, take_small, takes_begun, was_fed, within_limit}
+use Rattle.pn_command.proofs.ReadingLemmas.{all_fed, was_fed}
 use Rattle.pn_command.proofs.input.scan_all.Goals as goal
 
-pub loop-count-init : goal.loop-count-init
-loop-count-init g c = record { so_far = at_first c.new-scanner.result (g.S.Source.left c.args.source.now) c.new-scanner.ensures.read c.new-scanner.ensures.fault; later = omega arith }
-
-pub returns-in-Ok-finish-clause-scanned : goal.returns-in-Ok-finish-clause-scanned
-returns-in-Ok-finish-clause-scanned g c =
+pub finished-requires-clause-fed : goal.finished-requires-clause-fed
+finished-requires-clause-fed g c =
     let left = g.S.Source.left in
-    let none = subst (λ n. Consumes (left c.loop-count.source) (left c.read.new.self) (take n c.read.new.into)) c.in-Ok-eq0.field-0-test c.in-Ok-eq0.ensures.reads.0 in
-    let all = gave_nothing c.loop-count.scanner (left c.args.source.now) (left c.loop-count.source) c.loop-count.count c.loop-count.invariant.so_far (left c.read.new.self) none in
-    found_tree c.loop-count.scanner (left c.args.source.now) (left c.read.new.self) c.loop-count.count all c.in-Ok-finish.tree (c.in-Ok-eq0.ensures.reads.1 c.in-Ok-eq0.field-0-test (omega (arith, c.read.auto.into))) c.in-Ok-finish.ensures.ends
+    was_fed c.feed_all.new.scanner (left c.args.source.now) (left c.feed_all.new.source) c.in-Ok.ensures.fed.0 c.in-Ok.ensures.fed.1
 
-pub returns-in-Ok-finish-clause-no_further : goal.returns-in-Ok-finish-clause-no_further
-returns-in-Ok-finish-clause-no_further g c =
+pub finished-requires-clause-no_fault : goal.finished-requires-clause-no_fault
+finished-requires-clause-no_fault g c = c.in-Ok.ensures.fed.1.no_fault
+
+pub returns-in-Ok-clause-scanned : goal.returns-in-Ok-clause-scanned
+returns-in-Ok-clause-scanned g c =
     let left = g.S.Source.left in
-    let none = subst (λ n. Consumes (left c.loop-count.source) (left c.read.new.self) (take n c.read.new.into)) c.in-Ok-eq0.field-0-test c.in-Ok-eq0.ensures.reads.0 in
-    let all = gave_nothing c.loop-count.scanner (left c.args.source.now) (left c.loop-count.source) c.loop-count.count c.loop-count.invariant.so_far (left c.read.new.self) none in
-    nothing_more c.loop-count.scanner (left c.args.source.now) (left c.read.new.self) c.loop-count.count all
-
-pub returns-in-Ok-finish-clause-later : goal.returns-in-Ok-finish-clause-later
-returns-in-Ok-finish-clause-later g c = omega (arith, c.loop-count.invariant.later, c.in-Ok-eq0.ensures.cause.later)
-
-pub returns-in-Err-finish-clause-scanned : goal.returns-in-Err-finish-clause-scanned
-returns-in-Err-finish-clause-scanned g c =
-    let left = g.S.Source.left in
-    let none = subst (λ n. Consumes (left c.loop-count.source) (left c.read.new.self) (take n c.read.new.into)) c.in-Ok-eq0.field-0-test c.in-Ok-eq0.ensures.reads.0 in
-    let all = gave_nothing c.loop-count.scanner (left c.args.source.now) (left c.loop-count.source) c.loop-count.count c.loop-count.invariant.so_far (left c.read.new.self) none in
-    cut_off c.loop-count.scanner (left c.args.source.now) (left c.read.new.self) c.loop-count.count all c.in-Err-finish.fault c.stopped.result (c.in-Ok-eq0.ensures.reads.1 c.in-Ok-eq0.field-0-test (omega (arith, c.read.auto.into))) c.in-Err-finish.ensures.ends c.stopped.ensures
-
-pub returns-in-Err-finish-clause-no_further : goal.returns-in-Err-finish-clause-no_further
-returns-in-Err-finish-clause-no_further g c =
-    let left = g.S.Source.left in
-    let none = subst (λ n. Consumes (left c.loop-count.source) (left c.read.new.self) (take n c.read.new.into)) c.in-Ok-eq0.field-0-test c.in-Ok-eq0.ensures.reads.0 in
-    let all = gave_nothing c.loop-count.scanner (left c.args.source.now) (left c.loop-count.source) c.loop-count.count c.loop-count.invariant.so_far (left c.read.new.self) none in
-    nothing_more c.loop-count.scanner (left c.args.source.now) (left c.read.new.self) c.loop-count.count all
-
-pub returns-in-Err-finish-clause-later : goal.returns-in-Err-finish-clause-later
-returns-in-Err-finish-clause-later g c = omega (arith, c.loop-count.invariant.later, c.in-Ok-eq0.ensures.cause.later)
-
-pub finish-requires : goal.finish-requires
-finish-requires g c = was_fed c.loop-count.scanner (g.S.Source.left c.args.source.now) (g.S.Source.left c.loop-count.source) c.loop-count.count c.loop-count.invariant.so_far
-
-pub feed-requires : goal.feed-requires
-feed-requires g c = was_fed c.loop-count.scanner (g.S.Source.left c.args.source.now) (g.S.Source.left c.loop-count.source) c.loop-count.count c.loop-count.invariant.so_far
-
-pub loop-count-preserved : goal.loop-count-preserved
-loop-count-preserved g c =
-    let left = g.S.Source.left in
-    record {
-      so_far = subst (λ n. ReadSoFar c.feed.new.self (left c.args.source.now) (left c.read.new.self) (c.loop-count.count + n)) (take_size c.in-Ok.size c.read.new.into c.in-Ok.ensures.bound.0)
-          (one_piece c.loop-count.scanner (left c.args.source.now) (left c.loop-count.source) c.loop-count.count c.loop-count.invariant.so_far (left c.read.new.self) c.feed.new.self
-          (take c.in-Ok.size c.read.new.into) c.in-Ok.ensures.reads.0 c.in-Ok-feed.ensures.read c.in-Ok-feed.ensures.answer c.in-Ok-feed.ensures.goes);
-      later = omega (arith, c.loop-count.invariant.later, c.in-Ok.ensures.cause.later);
-    }
-
-pub returns-in-Err-feed-clause-scanned : goal.returns-in-Err-feed-clause-scanned
-returns-in-Err-feed-clause-scanned g c =
-    let left = g.S.Source.left in
-    refused c.loop-count.scanner (left c.args.source.now) (left c.loop-count.source) c.loop-count.count c.loop-count.invariant.so_far (left c.read.new.self) c.feed.new.self (take c.in-Ok.size c.read.new.into)
-    c.in-Err-feed.fault c.stopped-in-Err-feed.result c.in-Ok.ensures.reads.0 c.in-Err-feed.ensures.read c.in-Err-feed.ensures.broken c.in-Err-feed.ensures.too_long c.stopped-in-Err-feed.ensures
-
-pub returns-in-Err-feed-clause-no_further : goal.returns-in-Err-feed-clause-no_further
-returns-in-Err-feed-clause-no_further g c =
-    let left = g.S.Source.left in
-    no_further c.loop-count.scanner (left c.args.source.now) (left c.loop-count.source) c.loop-count.count c.loop-count.invariant.so_far (left c.read.new.self) (take c.in-Ok.size c.read.new.into) c.in-Ok.ensures.reads.0
-    (take_small c.in-Ok.size c.read.new.into c.in-Ok.ensures.bound.0 (omega (arith, c.read.auto.into)))
-
-pub returns-in-Err-feed-clause-later : goal.returns-in-Err-feed-clause-later
-returns-in-Err-feed-clause-later g c = omega (arith, c.loop-count.invariant.later, c.in-Ok.ensures.cause.later)
-
-pub returns-in-Err-clause-no_further : goal.returns-in-Err-clause-no_further
-returns-in-Err-clause-no_further g c =
-    let left = g.S.Source.left in
-    let all = kept c.loop-count.scanner (left c.args.source.now) (left c.loop-count.source) c.loop-count.count c.loop-count.invariant.so_far (left c.read.new.self) c.in-Err.ensures.reads in
-    nothing_more c.loop-count.scanner (left c.args.source.now) (left c.read.new.self) c.loop-count.count all
-
-pub returns-in-Err-clause-at_fault : goal.returns-in-Err-clause-at_fault
-returns-in-Err-clause-at_fault g c same =
-    let left = g.S.Source.left in
-    let all = kept c.loop-count.scanner (left c.args.source.now) (left c.loop-count.source) c.loop-count.count c.loop-count.invariant.so_far (left c.read.new.self) c.in-Err.ensures.reads in
-    takes_begun c.loop-count.scanner (left c.args.source.now) (left c.read.new.self) c.loop-count.count all
-
-pub returns-in-Err-clause-later : goal.returns-in-Err-clause-later
-returns-in-Err-clause-later g c = omega (arith, c.loop-count.invariant.later, c.in-Err.ensures.cause.later)
-
-pub returns-in-Err-clause-cause : goal.returns-in-Err-clause-cause
-returns-in-Err-clause-cause g c same =
-    let faults = g.S.Source.faults in
-    rose_before (faults c.args.source.now) (faults c.loop-count.source) (faults c.read.new.self) c.loop-count.invariant.later c.in-Err.ensures.cause.failed
-
-pub unreachable-requires : goal.unreachable-requires
-unreachable-requires g c =
-    let within = within_limit c.loop-count.scanner (g.S.Source.left c.args.source.now) (g.S.Source.left c.loop-count.source) c.loop-count.count c.loop-count.invariant.so_far in
-    absurd (omega (arith, c.loop-count-test.false))
+    all_fed c.feed_all.new.scanner (left c.args.source.now) (left c.feed_all.new.source) c.in-Ok.ensures.fed.0 c.finished.result c.in-Ok.ensures.fed.1 c.in-Ok.ensures.end c.finished.ensures.scanned

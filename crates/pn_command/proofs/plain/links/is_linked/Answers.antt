@@ -1,6 +1,7 @@
 use Rattle.std.proofs.Common.{[], subst, ap, ◌∙◌}
 use Rattle.std.specs.List.{list_all}
-use Rattle.pn_command.specs.Links.{NotesAll, names_of, joins}
+use Rattle.pn_ids.specs.Names.{NotesAll}
+use Rattle.pn_command.specs.Links.{names_of, joins}
 use Rattle.pn_command.specs.Plain.{PlainNet}
 use Rattle.pn_command.proofs.RoleLemmas.{linked_found, linked_not}
 use Rattle.pn_command.proofs.plain.links.is_linked.Goals as goal

@@ -1,8 +1,9 @@
-use Rattle.std.proofs.Common.{codes, refl, sym, ◌∙◌, map, Some}
+use Rattle.std.proofs.Common.{◌≡◌, codes, refl, sym, ◌∙◌, map, Some, subst}
 use Rattle.pn_tree.specs.Views.{element_of}
 use Rattle.pn_command.specs.NetTree.{label_kids, arc_tree}
-use Rattle.pn_command.specs.Plain.{IsLabel}
-use Rattle.pn_command.specs.PlainTree.{shown}
+use Rattle.pn_command.specs.declared.plain.net.Arc.{Arc}
+use Rattle.pn_command.specs.Plain.{IsArc, IsLabel}
+use Rattle.pn_command.specs.PlainTree.{bare, shown}
 use Rattle.pn_command.proofs.BareLemmas.{match_none, match_some, no_label, part_is, arc_is}
 use Rattle.pn_command.proofs.plain.nodes.arc.Goals as goal
 
@@ -11,7 +12,12 @@ returns-in_default-2 c other is same = no_label (element_of c.args.view) (arc_tr
 
 pub returns : goal.returns
 returns c =
-    arc_is (element_of c.args.view) c.deref.result.now c.in-Some-2.inside.items c.in-Some.id.now c.in_ok-id.id c.in-Some-id_at.source.now c.in_ok-source.source c.in-Some-id_at-2.target.now c.in_ok-target.target c.in-Some-3.weight
-    (sym c.has_name.ensures ∙ c.if-not-has_name.false) (sym c.attr_count.ensures ∙ c.if-attr_count-ne3.false) c.in_ok-id.ensures c.in-Some.ensures c.in_ok-source.ensures c.in-Some-id_at.ensures c.in_ok-target.ensures c.in-Some-id_at-2.ensures
+    let id = c.in-Some.id.now in
+    let source = c.in-Some-id_at.source.now in
+    let target = c.in-Some-id_at-2.target.now in
+    let weight = c.in-Some-3.weight in
+    subst (λ (a : Arc). IsArc a × (bare (element_of c.args.view) ≡ arc_tree a)) (sym c.in_ok-arc.ensures)
+    (arc_is (element_of c.args.view) c.deref.result.now c.in-Some-2.inside.items id id source source target target weight
+    (sym c.has_name.ensures ∙ c.if-not-has_name.false) (sym c.attr_count.ensures ∙ c.if-attr_count-ne3.false) refl c.in-Some.ensures refl c.in-Some-id_at.ensures refl c.in-Some-id_at-2.ensures
     (match_some _ _ c.in_ok-inside.field-0 c.in-Some-2.inside c.in-Some-2.is c.in_ok-inside.ensures) c.deref.ensures.value
-    (part_is (IsLabel 1) (label_kids (codes "inscription")) (map shown c.deref.result.now) c.in_ok-weight.field-0 (Some c.in-Some-3.weight) c.in-Some-3.is c.in_ok-weight.ensures)
+    (part_is (IsLabel 1) (label_kids (codes "inscription")) (map shown c.deref.result.now) c.in_ok-weight.field-0 (Some c.in-Some-3.weight) c.in-Some-3.is c.in_ok-weight.ensures))

@@ -1,0 +1,5 @@
+//! Tests of the top call: what it writes for words and a document, and how it ends.
+#![tactic(auto)]
+
+#[cfg(test)]
+mod tests;
