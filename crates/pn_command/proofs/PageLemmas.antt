@@ -2,6 +2,7 @@
 use Rattle.std.proofs.Common.{◌≡◌, ◌≢◌, ◌&&◌, ℕ, zero, suc, Bool, true, false, List, [], ◌∷◌, ◌++◌, codes, map, length, take, drop, refl, sym, ap, ◌∙◌, subst, true≢false, slice_get, arith, Option, Some, None, Result, Ok, Err, IfOk}
 use Rattle.std.specs.List.{list_all, AllByRecursion}
 use Rattle.std.specs.Str.{bytes_eq}
+use Rattle.pn_facts.proofs.Truths.{and_left, and_right}
 use Rattle.pn_tree.specs.declared.element.Element.{Element}
 use Rattle.pn_tree.specs.declared.element.Child.{Child}
 use Rattle.pn_tree.specs.declared.element.Child.TheOpen as layer
@@ -44,14 +45,6 @@ pub record SplitAt (name : List ℕ) (views : List View) (n : ℕ) (front back :
   pub first : map shown (take n views) ≡ front
   pub rest : map shown (drop n views) ≡ back
 
-and_first : (a b : Bool) → (a && b) ≡ true → a ≡ true
-and_first true b e = refl
-and_first false b e = absurd (true≢false (sym e))
-
-and_second : (a b : Bool) → (a && b) ≡ true → b ≡ true
-and_second true b e = e
-and_second false b e = absurd (true≢false (sym e))
-
 first_kid : {k l : Child} {ks ls : List Child} → l ∷ ls ≡ k ∷ ks → k ≡ l
 first_kid e = cc
 
@@ -66,13 +59,13 @@ lead_split name [] zero (k ∷ ks) back leading named other same = cc
 lead_split name (v ∷ views) zero [] back leading named other same = record { first = refl; rest = same }
 lead_split name (v ∷ views) (suc n) [] [] leading named other same = cc
 lead_split name (v ∷ views) (suc n) [] (k ∷ ks) leading named other same =
-    let here : kid_named name k ≡ true = ap (kid_named name) (first_kid same) ∙ shown_named name v ∙ and_first _ _ leading.named in
+    let here : kid_named name k ≡ true = ap (kid_named name) (first_kid same) ∙ shown_named name v ∙ and_left _ _ leading.named in
     absurd (true≢false (sym here ∙ other))
 lead_split name (v ∷ views) zero (k ∷ ks) back leading named other same =
-    let here : bytes_eq (element_of v).name name ≡ true = sym (shown_named name v) ∙ ap (kid_named name) (sym (first_kid same)) ∙ and_first _ _ named in
+    let here : bytes_eq (element_of v).name name ≡ true = sym (shown_named name v) ∙ ap (kid_named name) (sym (first_kid same)) ∙ and_left _ _ named in
     absurd (true≢false (sym here ∙ leading.ended))
 lead_split name (v ∷ views) (suc n) (k ∷ ks) back leading named other same =
-    let more = lead_split name views n ks back (record { within = omega (arith, leading.within); named = and_second _ _ leading.named; ended = leading.ended }) (and_second _ _ named) other (other_kids same) in
+    let more = lead_split name views n ks back (record { within = omega (arith, leading.within); named = and_right _ _ leading.named; ended = leading.ended }) (and_right _ _ named) other (other_kids same) in
     record { first = ap (λ l. shown v ∷ l) more.first ∙ ap (λ x. x ∷ ks) (sym (first_kid same)); rest = more.rest }
 
 places_named : (ps : List Place) → list_all (kid_named (codes "place")) (map place_kid ps) ≡ true
@@ -217,10 +210,10 @@ root_read e v (Err x) named one spaced inside read = tt
 split_once : (name : List ℕ) (xs ys rest more : List Child) → list_all (kid_named name) xs ≡ true → list_all (kid_named name) ys ≡ true → begins_named name rest ≡ false → begins_named name more ≡ false
     → xs ++ rest ≡ ys ++ more → (xs ≡ ys) × (rest ≡ more)
 split_once name [] [] rest more all each ends stops same = (refl, same)
-split_once name [] (y ∷ ys) rest more all each ends stops same = absurd (true≢false (sym (and_first _ _ each) ∙ sym (ap (begins_named name) same) ∙ ends))
-split_once name (x ∷ xs) [] rest more all each ends stops same = absurd (true≢false (sym (and_first _ _ all) ∙ ap (begins_named name) same ∙ stops))
+split_once name [] (y ∷ ys) rest more all each ends stops same = absurd (true≢false (sym (and_left _ _ each) ∙ sym (ap (begins_named name) same) ∙ ends))
+split_once name (x ∷ xs) [] rest more all each ends stops same = absurd (true≢false (sym (and_left _ _ all) ∙ ap (begins_named name) same ∙ stops))
 split_once name (x ∷ xs) (y ∷ ys) rest more all each ends stops same =
-    let inner = split_once name xs ys rest more (and_second _ _ all) (and_second _ _ each) ends stops (other_kids same) in
+    let inner = split_once name xs ys rest more (and_right _ _ all) (and_right _ _ each) ends stops (other_kids same) in
     (ap (λ l. x ∷ l) inner.0 ∙ ap (λ k. k ∷ ys) (sym (first_kid same)), inner.1)
 
 -- lists of parts are equal where their kids are

@@ -1,5 +1,6 @@
 -- What was read of an input so far, and what it comes to.
 use Rattle.std.proofs.Common.{◌≡◌, ◌<◌, ◌≤◌, ◌+◌, ℕ, zero, suc, List, [], ◌∷◌, ◌++◌, length, take, drop, Option, None, Some, IfSome, Result, Ok, Err, IfOk, refl, sym, ap, ◌∙◌, subst, append-nil, take-append-drop, length-append, arith}
+use Rattle.std.proofs.lemmas.List.{length-take-le, take-append-le, take_all}
 use Rattle.std.specs.Io.KnownBytes.{Consumes, IsAtEnd, Keeps}
 use Rattle.std.proofs.KnownBytes.{Consumes-nil, Consumes-trans, Consumes-kept}
 use Rattle.pn_outside.specs.Cause.{Rose}
@@ -79,11 +80,6 @@ module _ (s : Scanner) (a b : Option (List ℕ)) (n : ℕ) (so_far : IsFed s a b
 pub nothing_more : (s : Scanner) (a b : Option (List ℕ)) (n : ℕ) → IsFed s a b n → ReadsNoFurther a b
 nothing_more s a b n so_far = no_further s a b n so_far b [] (Consumes-nil b) (omega arith)
 
-take_within : (k : ℕ) (b rest : List ℕ) → k ≤ length b → take k (b ++ rest) ≡ take k b
-take_within zero b rest h = refl
-take_within (suc k) [] rest h = absurd (omega arith)
-take_within (suc k) (x ∷ b) rest h = ap (λ l. x ∷ l) (take_within k b rest (omega arith))
-
 front_take : (m : ℕ) (b : List ℕ) → IsFront b → IsFront (take m b)
 front_take m b f = shorter_front (take m b) (drop m b) (subst IsFront (sym (take-append-drop m b)) f)
 
@@ -94,9 +90,9 @@ longer b rest = let size = length-append b rest in omega arith
 broken_stays : (b rest : List ℕ) (k : ℕ) → IsBreak b k → k < length b → k < BYTES → BreaksAt (b ++ rest) k
 broken_stays b rest k p inside small =
     let more = longer b rest in
-    let no = λ (f : IsFront (take (suc k) (b ++ rest))). p.no_more inside (subst IsFront (take_within (suc k) b rest (omega arith)) f) in
+    let no = λ (f : IsFront (take (suc k) (b ++ rest))). p.no_more inside (subst IsFront (take-append-le (suc k) b rest (omega arith)) f) in
     record {
-      breaks = record { within = omega arith; front = subst IsFront (sym (take_within k b rest (omega arith))) p.front; no_more = λ less f. no f };
+      breaks = record { within = omega arith; front = subst IsFront (sym (take-append-le k b rest (omega arith))) p.front; no_more = λ less f. no f };
       no_document = λ t d. no (front_take (suc k) (b ++ rest) (front_of_document t (b ++ rest) d));
       fits = λ long. no (take_front (suc k) BYTES (b ++ rest) (omega arith) long.front);
     }
@@ -104,7 +100,7 @@ broken_stays b rest k p inside small =
 long_stays : (b rest : List ℕ) → BYTES < length b → IsFront (take BYTES b) → IsTooLong (b ++ rest)
 long_stays b rest size f =
     let more = longer b rest in
-    record { longer = omega arith; front = subst IsFront (sym (take_within BYTES b rest (omega arith))) f }
+    record { longer = omega arith; front = subst IsFront (sym (take-append-le BYTES b rest (omega arith))) f }
 
 -- what holds of the bytes taken and any bytes behind them holds of all that was there
 part_given : (old new : Option (List ℕ)) (bytes : List ℕ) (P : List ℕ → Type 0) → Consumes old new bytes → ((rest : List ℕ) → P (bytes ++ rest)) → IfSome old P
@@ -128,12 +124,6 @@ ended_at b k within is only = record {
   no_document = only.none;
   fits = λ long. let large = long.longer in absurd (omega arith);
 }
-  where
-    take_all : (m : ℕ) (b : List ℕ) → length b ≤ m → take m b ≡ b
-    take_all zero [] h = refl
-    take_all zero (x ∷ b) h = absurd (omega arith)
-    take_all (suc m) [] h = refl
-    take_all (suc m) (x ∷ b) h = ap (λ l. x ∷ l) (take_all m b (omega arith))
 
 -- what a fault says, kind by kind
 fault_says : (f : ScanFault) (old : Option (List ℕ)) → ((k : ℕ) → f ≡ fault.Broken k → IfSome old (λ x. BreaksAt x k)) → (f ≡ fault.TooLong → IfSome old (λ x. IsTooLong x)) → IfSome old (FaultSays f)
@@ -177,13 +167,8 @@ pub nothing_said : (old : Option (List ℕ)) → IfSome old (HaltSays halt.Sourc
 nothing_said None = tt
 nothing_said (Some bytes) = tt
 
-pub take_size : (n : ℕ) (xs : List ℕ) → n ≤ length xs → length (take n xs) ≡ n
-take_size zero xs h = refl
-take_size (suc n) [] h = absurd (omega arith)
-take_size (suc n) (x ∷ xs) h = ap suc (take_size n xs (omega arith))
-
 pub take_small : (n : ℕ) (xs : List ℕ) → n ≤ length xs → length xs ≡ 4096 → length (take n xs) ≤ 4096
-take_small n xs h size = let same = take_size n xs h in omega arith
+take_small n xs h size = let same = length-take-le n xs h in omega arith
 
 -- a count that rose since later rose since before
 pub rose_before : (a b c : ℕ) → a ≤ b → Rose b c → Rose a c

@@ -8,22 +8,16 @@ use Rattle.std.proofs.Math.Nat.{mod-lt}
 use Rattle.std.proofs.Math.Seq.{take-suc}
 use Rattle.std.specs.List.{list_all, flat_map}
 use Rattle.std.specs.Str.{bytes_eq}
+use Rattle.pn_facts.proofs.Truths.{and_both, and_left, and_right}
 use Rattle.pn_tree.specs.Building.{Building, innermost, begun, at_innermost, with_attr, with_text, with_kid, ended}
 use Rattle.pn_text.specs.Characters.{is_character, characters_of, utf8_of, is_text}
 use Rattle.pn_tree.specs.declared.element.Element.{Element}
 use Rattle.pn_tree.specs.declared.element.Child.{Child}
 use Rattle.pn_tree.specs.declared.element.Child.TheVariants as children
 use Rattle.pn_text.proofs.TextLemmas.{is_text-append}
-use Rattle.pn_command.specs.Building.{HasRoom, with_kids}
+use Rattle.pn_command.specs.Building.{CanNest, with_kids}
 use Rattle.pn_command.specs.NetTree.{made, net_element, number_tree, page_tree}
 use Rattle.pn_command.specs.Plain.{is_id_byte, IsId, Page}
-
-both_true : (a b : Bool) → (a && b) ≡ true → (a ≡ true) × (b ≡ true)
-both_true true b h = (refl, h)
-both_true false b h = cc
-
-both_hold : (a b : Bool) → a ≡ true → b ≡ true → (a && b) ≡ true
-both_hold a b p q = cc
 
 -- one ASCII byte of a character that a document may have
 byte_is_text : (b : ℕ) → 31 < b → b < 127 → is_text (b ∷ []) ≡ true
@@ -33,7 +27,7 @@ byte_is_text b low high =
     let back : flat_map utf8_of (b ∷ []) ≡ b ∷ [] = rw small refl in
     let spelled : characters_of (b ∷ []) ≡ b ∷ [] = rw small refl in
     subst (λ (cs : List ℕ). (list_all is_character cs && bytes_eq (flat_map utf8_of cs) (b ∷ [])) ≡ true) (sym spelled)
-    (both_hold (list_all is_character (b ∷ [])) (bytes_eq (flat_map utf8_of (b ∷ [])) (b ∷ [])) (both_hold (is_character b) true character refl)
+    (and_both (list_all is_character (b ∷ [])) (bytes_eq (flat_map utf8_of (b ∷ [])) (b ∷ [])) (and_both (is_character b) true character refl)
     ((bytes_eq-Decides (flat_map utf8_of (b ∷ [])) (b ∷ [])).1 back))
 
 -- ASCII bytes that can be printed and need no escape
@@ -67,10 +61,10 @@ id_byte_is_plain b h = (
 
 id_bytes_are_plain : (bs : List ℕ) → list_all is_id_byte bs ≡ true → AllPlain bs
 id_bytes_are_plain [] h = tt
-id_bytes_are_plain (b ∷ bs) h = let parts = both_true (is_id_byte b) (list_all is_id_byte bs) h in (id_byte_is_plain b parts.0, id_bytes_are_plain bs parts.1)
+id_bytes_are_plain (b ∷ bs) h = (id_byte_is_plain b (and_left (is_id_byte b) (list_all is_id_byte bs) h), id_bytes_are_plain bs (and_right (is_id_byte b) (list_all is_id_byte bs) h))
 
 pub id_is_plain : (id : List ℕ) → IsId id → AllPlain id
-id_is_plain id is = id_bytes_are_plain id (both_true (not (length id == 0)) (list_all is_id_byte id) is).1
+id_is_plain id is = id_bytes_are_plain id (and_right (not (length id == 0)) (list_all is_id_byte id) is)
 
 digit_is_plain : (d : ℕ) → d < 10 → IsPlainByte (48 + d)
 digit_is_plain d small = (omega arith, omega arith, λ e. absurd (omega arith), λ e. absurd (omega arith), λ e. absurd (omega arith), λ e. absurd (omega arith))
@@ -145,7 +139,7 @@ open_by : (f : Element → Element) (root : Option Element) (es : List Element) 
 open_by f root [] some = cc
 open_by f root (e ∷ es) some = (refl, refl)
 
-pub open_still : (levels : ℕ) (f : Element → Element) (b : Building) → HasRoom levels b → HasRoom levels (at_innermost f b)
+pub open_still : (levels : ℕ) (f : Element → Element) (b : Building) → CanNest levels b → CanNest levels (at_innermost f b)
 open_still levels f b is = let still = open_by f b.root b.open_elements is.some in record { unended = is.unended; some = still.0; room = rw still.1 is.room }
 
 -- one more item's kid in a loop

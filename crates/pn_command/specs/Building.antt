@@ -5,7 +5,7 @@ use Rattle.pn_tree.specs.declared.element.Element.{Element}
 use Rattle.pn_tree.specs.declared.element.Child.{Child}
 
 -- the root is not ended, an element is open, and so many levels may stand inside it
-pub record HasRoom (levels : ℕ) (b : Building) : Type 0 where
+pub record CanNest (levels : ℕ) (b : Building) : Type 0 where
   pub unended : b.root ≡ None
   pub some : IsSome (innermost b)
   pub room : length b.open_elements + levels ≤ 256

@@ -4,7 +4,7 @@ ghost use Rattle.std.specs.Prelude.{◌≡◌, ◌≤◌, ◌+◌, ◌++◌, ◌
 ghost use Rattle.pn_tree.specs.Building.{Building, at_innermost, innermost, nothing_built, with_kid};
 ghost use Rattle.pn_text.specs.Characters.{is_name};
 ghost use Rattle.pn_tree.specs.declared.element.Child.TheVariants as children;
-ghost use Rattle.pn_command.specs.Building.{HasRoom, with_kids};
+ghost use Rattle.pn_command.specs.Building.{CanNest, with_kids};
 ghost use Rattle.pn_command.specs.NetTree.{number_tree, label_kids, place_kid, transition_kid, arc_kid, net_element, page_tree, tree_of_net};
 ghost use Rattle.pn_command.specs.Plain.{IsId, IsPlace, IsArc, IsPage, IsWritten};
 ghost use Rattle.std.specs.List.{AllByRecursion};
@@ -18,7 +18,7 @@ use std::alloc::{AllocError, Global};
 /// Adds a label with a number.
 fn add_number(builder: &mut Builder, name: &str, number: u64) -> Result<(), AllocError>
     requires name { is_name name.now ≡ true }
-    requires is_open { HasRoom 2 builder.old }
+    requires is_open { CanNest 2 builder.old }
     ensures { OnOk result (builder.new ≡ at_innermost (with_kid (children.Element (number_tree name.now number))) builder.old) }
 {
     let mut digits = Buffer::new();
@@ -33,7 +33,7 @@ fn add_number(builder: &mut Builder, name: &str, number: u64) -> Result<(), Allo
 /// Adds a label with a number, where there is one.
 fn add_label(builder: &mut Builder, name: &str, label: Option<u64>) -> Result<(), AllocError>
     requires name { is_name name.now ≡ true }
-    requires is_open { HasRoom 2 builder.old }
+    requires is_open { CanNest 2 builder.old }
     ensures { OnOk result (builder.new ≡ at_innermost (with_kids (label_kids name.now label)) builder.old) }
 {
     match label {
@@ -45,7 +45,7 @@ fn add_label(builder: &mut Builder, name: &str, label: Option<u64>) -> Result<()
 /// Adds a place.
 fn add_place(builder: &mut Builder, place: &Place) -> Result<(), AllocError>
     requires is_place { IsPlace place.now }
-    requires is_open { HasRoom 3 builder.old }
+    requires is_open { CanNest 3 builder.old }
     ensures { OnOk result (builder.new ≡ at_innermost (with_kid (place_kid place.now)) builder.old) }
 {
     builder.begin("place", 0)?;
@@ -58,7 +58,7 @@ fn add_place(builder: &mut Builder, place: &Place) -> Result<(), AllocError>
 /// Adds a transition.
 fn add_transition(builder: &mut Builder, id: &Text) -> Result<(), AllocError>
     requires is_id { IsId id.now }
-    requires is_open { HasRoom 3 builder.old }
+    requires is_open { CanNest 3 builder.old }
     ensures { OnOk result (builder.new ≡ at_innermost (with_kid (transition_kid id.now)) builder.old) }
 {
     builder.begin("transition", 0)?;
@@ -70,7 +70,7 @@ fn add_transition(builder: &mut Builder, id: &Text) -> Result<(), AllocError>
 /// Adds an arc.
 fn add_arc(builder: &mut Builder, arc: &Arc) -> Result<(), AllocError>
     requires is_arc { IsArc arc.now }
-    requires is_open { HasRoom 3 builder.old }
+    requires is_open { CanNest 3 builder.old }
     ensures { OnOk result (builder.new ≡ at_innermost (with_kid (arc_kid arc.now)) builder.old) }
 {
     builder.begin("arc", 0)?;
@@ -85,7 +85,7 @@ fn add_arc(builder: &mut Builder, arc: &Arc) -> Result<(), AllocError>
 /// Adds places in their order.
 fn add_places(builder: &mut Builder, places: &[Place]) -> Result<(), AllocError>
     requires are_places { AllByRecursion IsPlace places.now }
-    requires is_open { HasRoom 3 builder.old }
+    requires is_open { CanNest 3 builder.old }
     ensures { OnOk result (builder.new ≡ at_innermost (with_kids (map place_kid places.now)) builder.old) }
 {
     for place in places {
@@ -97,7 +97,7 @@ fn add_places(builder: &mut Builder, places: &[Place]) -> Result<(), AllocError>
 /// Adds transitions in their order.
 fn add_transitions(builder: &mut Builder, transitions: &[Text]) -> Result<(), AllocError>
     requires are_ids { AllByRecursion IsId transitions.now }
-    requires is_open { HasRoom 3 builder.old }
+    requires is_open { CanNest 3 builder.old }
     ensures { OnOk result (builder.new ≡ at_innermost (with_kids (map transition_kid transitions.now)) builder.old) }
 {
     for transition in transitions {
@@ -109,7 +109,7 @@ fn add_transitions(builder: &mut Builder, transitions: &[Text]) -> Result<(), Al
 /// Adds arcs in their order.
 fn add_arcs(builder: &mut Builder, arcs: &[Arc]) -> Result<(), AllocError>
     requires are_arcs { AllByRecursion IsArc arcs.now }
-    requires is_open { HasRoom 3 builder.old }
+    requires is_open { CanNest 3 builder.old }
     ensures { OnOk result (builder.new ≡ at_innermost (with_kids (map arc_kid arcs.now)) builder.old) }
 {
     for arc in arcs {
@@ -121,7 +121,7 @@ fn add_arcs(builder: &mut Builder, arcs: &[Arc]) -> Result<(), AllocError>
 /// Adds the page.
 fn add_page(builder: &mut Builder, page: &PlainPage) -> Result<(), AllocError>
     requires is_page { IsPage page.now }
-    requires is_open { HasRoom 4 builder.old }
+    requires is_open { CanNest 4 builder.old }
     ensures { OnOk result (builder.new ≡ at_innermost (with_kid (children.Element (page_tree page.now))) builder.old) }
 {
     builder.begin("page", 0)?;
@@ -136,7 +136,7 @@ fn add_page(builder: &mut Builder, page: &PlainPage) -> Result<(), AllocError>
 /// Adds the element `net`.
 fn add_net(builder: &mut Builder, net: &PlainNet) -> Result<(), AllocError>
     requires is_written { IsWritten net.now }
-    requires is_open { HasRoom 5 builder.old }
+    requires is_open { CanNest 5 builder.old }
     ensures { OnOk result (builder.new ≡ at_innermost (with_kid (children.Element (net_element net.now))) builder.old) }
 {
     builder.begin("net", 0)?;

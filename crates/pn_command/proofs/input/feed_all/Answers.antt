@@ -1,7 +1,8 @@
 use Rattle.std.proofs.Common.{◌+◌, take, subst, arith}
+use Rattle.std.proofs.lemmas.List.{length-take-le}
 use Rattle.std.specs.Io.KnownBytes.{Consumes}
 use Rattle.pn_command.specs.Reading.{IsFed}
-use Rattle.pn_command.proofs.ReadingLemmas.{at_first, gave_nothing, kept, no_further, nothing_more, nothing_said, one_piece, refused, rose_before, take_size, take_small, takes_begun, was_fed, within_limit}
+use Rattle.pn_command.proofs.ReadingLemmas.{at_first, gave_nothing, kept, no_further, nothing_more, nothing_said, one_piece, refused, rose_before, take_small, takes_begun, was_fed, within_limit}
 use Rattle.pn_command.proofs.input.feed_all.Goals as goal
 
 pub loop-count-init : goal.loop-count-init
@@ -30,7 +31,7 @@ pub loop-count-preserved : goal.loop-count-preserved
 loop-count-preserved g c =
     let left = g.S.Source.left in
     record {
-      so_far = subst (λ n. IsFed c.feed.new.self (left c.args.source.now) (left c.read.new.self) (c.loop-count.count + n)) (take_size c.in-Ok.size c.read.new.into c.in-Ok.ensures.bound.0)
+      so_far = subst (λ n. IsFed c.feed.new.self (left c.args.source.now) (left c.read.new.self) (c.loop-count.count + n)) (length-take-le c.in-Ok.size c.read.new.into c.in-Ok.ensures.bound.0)
           (one_piece c.loop-count.scanner (left c.args.source.now) (left c.loop-count.source) c.loop-count.count c.loop-count.invariant.so_far (left c.read.new.self) c.feed.new.self
           (take c.in-Ok.size c.read.new.into) c.in-Ok.ensures.reads.0 c.in-Ok-feed.ensures.read c.in-Ok-feed.ensures.answer c.in-Ok-feed.ensures.goes);
       later = omega (arith, c.loop-count.invariant.later, c.in-Ok.ensures.cause.later);
