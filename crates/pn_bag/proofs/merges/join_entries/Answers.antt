@@ -1,4 +1,4 @@
-use Rattle.std.proofs.Common.{◌+◌, ◌≤◌, sym, subst, rules}
+use Rattle.std.proofs.Common.{◌+◌, ◌<◌, ◌≤◌, refl, sym, subst, rules, arith}
 use Rattle.pn_bag.specs.declared.TheConstants.{MAX_COUNT}
 use Rattle.pn_bag.specs.Bag.{IsBag}
 use Rattle.pn_bag.specs.Counts.{count_of}
@@ -10,3 +10,18 @@ returns-clause-bag g c =
     let own : IsBag g.K.Ord.cmp c.replace-own.result.items = search rules in
     let fits : (key : g.row.K.Denot) → count_of g.K.Ord.cmp c.replace-own.result.items key + count_of g.K.Ord.cmp c.args.other.items key ≤ MAX_COUNT = search rules in
     subst (IsBag g.K.Ord.cmp) (sym c.merge.ensures) (bag_joined g.met.K.Ord.total _ _ own fits)
+
+pub returns-then-sum_passes-clause-too_large : goal.returns-then-sum_passes-clause-too_large
+returns-then-sum_passes-clause-too_large g c =
+    let passes : (key : g.row.K.Denot) × (MAX_COUNT < count_of g.K.Ord.cmp c.args.entries.now.items key + count_of g.K.Ord.cmp c.args.other.items key) = search rules in
+    (λ is. passes, λ large. refl)
+
+pub returns-in_default-clause-too_large : goal.returns-in_default-clause-too_large
+returns-in_default-clause-too_large g c =
+    let fits : (key : g.row.K.Denot) → count_of g.K.Ord.cmp c.args.entries.now.items key + count_of g.K.Ord.cmp c.args.other.items key ≤ MAX_COUNT = search rules in
+    (λ is. absurd cc, λ large. absurd (omega (arith, fits large.0, large.1)))
+
+pub returns-clause-too_large : goal.returns-clause-too_large
+returns-clause-too_large g c =
+    let fits : (key : g.row.K.Denot) → count_of g.K.Ord.cmp c.args.entries.now.items key + count_of g.K.Ord.cmp c.args.other.items key ≤ MAX_COUNT = search rules in
+    (λ is. absurd cc, λ large. absurd (omega (arith, fits large.0, large.1)))

@@ -1,6 +1,6 @@
-use Rattle.std.proofs.Common.{ap, ◌∙◌, ◌+◌, subst, sym}
+use Rattle.std.proofs.Common.{ap, ◌∙◌, ◌+◌, refl, subst, sym, rules}
 use Rattle.pn_bag.specs.Bag.{IsBag}
-use Rattle.pn_bag.specs.Counts.{count_of}
+use Rattle.pn_bag.specs.Counts.{count_of, Includes}
 use Rattle.pn_bag.proofs.Sifting.{count_of-counted, bag-counted}
 use Rattle.pn_bag.proofs.takes.less_entries.Goals as goal
 
@@ -10,3 +10,8 @@ returns-clause-counts g c key =
 
 pub returns-clause-bag : goal.returns-clause-bag
 returns-clause-bag g c = subst (IsBag g.K.Ord.cmp) (sym c.drop_empty.ensures) (bag-counted g.K.Ord.cmp _ c.take_away.ensures.rising c.take_away.ensures.most)
+
+pub returns-clause-exact : goal.returns-clause-exact
+returns-clause-exact g c =
+    let includes : Includes g.K.Ord.cmp c.args.entries.now.items c.args.other.now = search rules in
+    (λ done. includes, λ all. refl)
