@@ -26,9 +26,6 @@ misc_space x c d h (instruction _ bytes rest s more i) e =
 body_space : (N : ℕ) (t : Element) (x : ℕ) (c : List ℕ) → is_space x ≡ true → Body N t (x ∷ c) → Body N t c
 body_space N t x c h b = go b.misc b.is_misc b.whole
   where
-    item : Element
-    item = t
-
     go : (m : List ℕ) → Misc m → x ∷ c ≡ m ++ (b.root ++ b.last) → Body N t c
     go m (nothing _ i) w =
         let all : x ∷ c ≡ b.root ++ b.last = w ∙ ap (λ l. l ++ (b.root ++ b.last)) i in

@@ -44,11 +44,11 @@ pub record FirstCharacter (p : List ℕ) (x : ℕ) (c : List ℕ) : Type 0 where
   pub is : open_behind p x ≡ Some open_bytes
   pub rest : is_text (open_bytes ++ c) ≡ true
 
-open_whole : (q : List ℕ) → is_whole q ≡ true → character_behind q ≡ Some []
-open_whole q h = ap (λ b. cond b (Some []) (cond (is_begun q) (Some q) None)) h
+open_where_whole : (q : List ℕ) → is_whole q ≡ true → character_behind q ≡ Some []
+open_where_whole q h = ap (λ b. cond b (Some []) (cond (is_begun q) (Some q) None)) h
 
-open_begun_so : (q : List ℕ) → is_begun q ≡ true → character_behind q ≡ Some q
-open_begun_so q h = ap (λ b. cond b (Some []) (cond (is_begun q) (Some q) None)) (false_from_ne_true (is_whole q) (λ k. begun_not_whole q h k)) ∙ ap (λ b. cond b (Some q) None) h
+open_where_begun : (q : List ℕ) → is_begun q ≡ true → character_behind q ≡ Some q
+open_where_begun q h = ap (λ b. cond b (Some []) (cond (is_begun q) (Some q) None)) (false_from_ne_true (is_whole q) (λ k. begun_not_whole q h k)) ∙ ap (λ b. cond b (Some q) None) h
 
 open_begun : (p : List ℕ) (x : ℕ) → AreOpen p → (y : List ℕ) (m : ℕ) (more : List ℕ) → is_whole y ≡ true → p ++ (x ∷ []) ≡ y ++ (m ∷ more) → ⊥
 open_begun [] x o [] m more h e = false≢true h
@@ -89,13 +89,13 @@ text_goes p x c o h = let t = text_characters (p ++ (x ∷ c)) h in go t.spelled
         cases (same i j) =
             record {
               open_bytes = [];
-              is = open_whole (p ++ (x ∷ [])) (subst (λ l. is_whole l ≡ true) (sym i) (whole_bytes k both.0));
+              is = open_where_whole (p ++ (x ∷ [])) (subst (λ l. is_whole l ≡ true) (sym i) (whole_bytes k both.0));
               rest = subst (λ l. is_text l ≡ true) (sym j) (characters_text (flat_map utf8_of cs) (record { spelled = cs; are_characters = both.1; bytes = refl }));
             }
         cases (shorter m more i j) =
             record {
               open_bytes = p ++ (x ∷ []);
-              is = open_begun_so (p ++ (x ∷ [])) (begun p (subst (λ l. is_whole l ≡ true) i (whole_bytes k both.0)));
+              is = open_where_begun (p ++ (x ∷ [])) (begun p (subst (λ l. is_whole l ≡ true) i (whole_bytes k both.0)));
               rest = subst (λ l. is_text l ≡ true) (sym (append_assoc p (x ∷ []) c)) h;
             }
           where
