@@ -15,9 +15,6 @@ use Rattle.pn_syntax.specs.declared.sort_expr.SortNode.TheOpen as layer
 use Rattle.pn_resolve.proofs.Expressions.{told_at, out_product, out_list}
 use Rattle.pn_facts.proofs.Lists.{drop_next}
 
-pub kept_nothing : (a : Option Fault) → a ≡ lower a (least_fault [])
-kept_nothing a = sym (lower-none a)
-
 -- some faults and then others
 pub kept_both : (a b c : Option Fault) (fs gs : List Fault) → b ≡ lower a (least_fault fs) → c ≡ lower b (least_fault gs) → c ≡ lower a (least_fault (fs ++ gs))
 kept_both a b c fs gs first second =

@@ -13,7 +13,7 @@ use Rattle.pn_values.specs.declared.sort.Sort.TheVariants as sorts
 use Rattle.pn_syntax.specs.declared.sort_expr.SortExpr.{SortExpr}
 use Rattle.pn_values.specs.declared.value.Value.{Value}
 use Rattle.pn_names.specs.Names.{Variable, variables_of}
-use Rattle.pn_names.specs.Partitions.{Lists}
+use Rattle.pn_partitions.specs.Partitions.{Lists}
 use Rattle.pn_resolve.specs.Meaning.{Resolves}
 use Rattle.pn_resolve.specs.Standing.{base_of, elements_of}
 
