@@ -20,7 +20,7 @@ use Rattle.pn_resolve.specs.Standing.{itself, IsBig, sort_too_big, StandsInSort,
 use Rattle.pn_faults.specs.Walks.{KeepsLeast}
 use Rattle.pn_resolve.specs.Tables.{extent_in, within, small, kept_by, IsExtent, IsTable}
 use Rattle.pn_resolve.specs.Telling.{told, known_by}
-use Rattle.pn_resolve.proofs.ExtentLemmas.{fits_told, none_told, big_told, small_not_big}
+use Rattle.pn_resolve.proofs.ExtentLemmas.{fits_told, small_not_big}
 use Rattle.pn_resolve.proofs.FaultLemmas.{stands_told, told_stands, Why, by_fault, by_name, why}
 use Rattle.pn_resolve.proofs.LeastLemmas.{least_of}
 use Rattle.pn_resolve.proofs.Meanings.{resolves_once}

@@ -1,5 +1,5 @@
 -- How declarations are settled one after another.
-use Rattle.std.proofs.Common.{◌≡◌, ◌↔◌, ◌<◌, ◌≤◌, ◌+◌, ◌⊎◌, ◌^◌, ℕ, zero, suc, Bool, true, false, IsTrue, List, [], ◌∷◌, ◌++◌, length, map, take, get_or, refl, sym, ap, ◌∙◌, subst, inl, inr, Contains, Option, Some, None, slice_get, IsSome, IfSome, arith, add-one, codes, Result, Err}
+use Rattle.std.proofs.Common.{◌≡◌, ◌<◌, ◌+◌, ◌⊎◌, ◌^◌, ℕ, zero, suc, true, List, [], ◌∷◌, ◌++◌, length, take, get_or, refl, sym, ap, ◌∙◌, subst, inl, inr, Contains, Option, Some, None, slice_get, arith, add-one, codes, Result, Err}
 use Rattle.std.proofs.Math.Seq.{take-suc}
 use Rattle.std.proofs.lemmas.List.Elements.{Contains-append_cases}
 use Rattle.pn_syntax.specs.declared.declaration.Declaration.{Declaration}
@@ -18,10 +18,8 @@ use Rattle.pn_sorts.specs.Standing.{IsBadPartition}
 use Rattle.pn_faults.specs.declared.fault.Fault.{Fault}
 use Rattle.pn_faults.specs.Least.{lower}
 use Rattle.pn_faults.specs.Standing.{IsLeastOf}
-use Rattle.pn_faults.proofs.LeastLemmas.{lower-none}
 use Rattle.pn_resolve.proofs.Meanings.{resolves_once}
 use Rattle.pn_faults.proofs.WalkLemmas.{least_of_both, least_alike, keeps_alike}
-use Rattle.pn_resolve.proofs.LeastLemmas.{least_of}
 use Rattle.pn_faults.specs.Walks.{KeepsLeast}
 use Rattle.pn_resolve.specs.Tables.{IsExtent}
 use Rattle.pn_resolve.specs.declared.extent.Extent.{Extent}
@@ -41,7 +39,6 @@ use Rattle.pn_names.specs.Names.{AreNumbered, names_of, variable_places_of, widt
 use Rattle.pn_resolve.specs.Tables.{Entries, IsTable}
 use Rattle.pn_names.proofs.DeclaredLemmas.{slice_get_at, slice_get_left}
 use Rattle.pn_syntax.specs.declared.declaration.Declaration.TheVariants as declarations
-use Rattle.pn_resolve.specs.Standing.{StandsBesides}
 use Rattle.pn_sorts.specs.Standing.{IsFaultless, Stands}
 use Rattle.pn_sorts.specs.Standing.Stands.{besides, bad_partition}
 use Rattle.pn_resolve.specs.Standing.StandsBesides.{constant_range}

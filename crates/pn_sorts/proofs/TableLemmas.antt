@@ -1,11 +1,10 @@
 -- The sorts and tables of declarations that have no fault.
-use Rattle.std.proofs.Common.{◌≡◌, ◌<◌, ◌≤◌, ◌^◌, ℕ, zero, suc, Bool, true, false, List, [], ◌∷◌, length, map, refl, sym, ap, ◌∙◌, subst, Option, Some, None, slice_get, slice_index, IsSome, true≢false, arith}
+use Rattle.std.proofs.Common.{◌≡◌, ◌<◌, ◌≤◌, ◌^◌, ℕ, zero, suc, true, List, [], ◌∷◌, length, refl, sym, ap, ◌∙◌, subst, Option, Some, None, slice_get, slice_index, IsSome, true≢false, arith}
 use Rattle.std.specs.Option.{option_and_then}
 use Rattle.std.proofs.lemmas.Option.{slice_get_within}
-use Rattle.std.specs.List.{AllByRecursion, range_with_len}
+use Rattle.std.specs.List.{AllByRecursion}
 use Rattle.pn_syntax.specs.declared.declaration.Declaration.{Declaration}
 use Rattle.pn_syntax.specs.declared.declaration.Declaration.TheVariants as declarations
-use Rattle.pn_syntax.specs.declared.declaration.PartElement.{PartElement}
 use Rattle.pn_values.specs.declared.sort.Sort.{Sort}
 use Rattle.pn_syntax.specs.declared.sort_expr.SortExpr.{SortExpr}
 use Rattle.pn_values.specs.declared.value.Value.{Value}
@@ -16,10 +15,9 @@ use Rattle.pn_carriers.specs.Carriers.{carrier, count_between, is_finite}
 use Rattle.pn_carriers.proofs.SizeLemmas.{length_constants, length_numbers}
 use Rattle.pn_carriers.proofs.LayerLemmas.{carrier-enumeration, carrier-range, finite-enumeration, finite-range}
 use Rattle.pn_partitions.proofs.BaseLemmas.{enumeration_is, range_is}
-use Rattle.pn_carriers.specs.Members.{IsMember}
 use Rattle.pn_names.specs.Names.{AreNumbered, constant_ids, widths_of, variables_of, variable_places_of, variable_at, variable_of, Variable}
 use Rattle.pn_partitions.specs.Partitions.{is_splittable, is_splittable_layer}
-use Rattle.pn_names.proofs.DeclaredLemmas.{variable_declared, as_many_places}
+use Rattle.pn_names.proofs.DeclaredLemmas.{variable_declared}
 use Rattle.pn_resolve.specs.Meaning.{Resolves}
 use Rattle.pn_resolve.specs.Standing.{base_of, elements_of, expr_of}
 use Rattle.pn_sorts.specs.Standing.{IsFaultless}

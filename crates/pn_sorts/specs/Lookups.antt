@@ -1,11 +1,10 @@
 -- What the declarations tell of variables, constants, enumerations and partitions: ISO/IEC 15909-2, declarations.
-use Rattle.std.specs.Prelude.{◌≡◌, ◌<◌, ℕ, Bool, true, false, List, Option, None, Some}
+use Rattle.std.specs.Prelude.{◌≡◌, ℕ, Bool, true, false, List, Option, None, Some}
 use Rattle.std.specs.List.{slice_get}
 use Rattle.std.specs.Option.{option_and_then}
 use Rattle.pn_syntax.specs.declared.declaration.Declaration.{Declaration}
 use Rattle.pn_syntax.specs.declared.declaration.Declaration.TheVariants as declarations
 use Rattle.pn_syntax.specs.declared.declaration.PartElement.{PartElement}
-use Rattle.pn_syntax.specs.declared.declaration.SortBody.{SortBody}
 use Rattle.pn_syntax.specs.declared.declaration.SortBody.TheVariants as bodies
 use Rattle.pn_values.specs.declared.constant_ref.ConstantRef.{ConstantRef}
 use Rattle.pn_values.specs.declared.sort.Sort.{Sort}

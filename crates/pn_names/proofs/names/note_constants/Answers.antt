@@ -1,4 +1,4 @@
-use Rattle.std.proofs.Common.{◌≡◌, ℕ, List, false, true, [], ◌∷◌, ◌++◌, ◌+◌, suc, ap, ◌∙◌, sym, subst, drop, append_assoc, arith}
+use Rattle.std.proofs.Common.{◌≡◌, ℕ, List, true, [], ◌∷◌, ◌++◌, ◌+◌, suc, ap, ◌∙◌, sym, subst, drop, append_assoc, arith}
 use Rattle.std.proofs.lemmas.Option.{slice_get_within, get_or_from_slice_get}
 use Rattle.pn_facts.proofs.Lists.{drop_next}
 use Rattle.pn_ids.specs.Names.{AreDistinct, NotesAll}

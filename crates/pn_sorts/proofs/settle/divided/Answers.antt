@@ -1,4 +1,4 @@
-use Rattle.std.proofs.Common.{◌≡◌, ap, sym, ◌∙◌, subst, inr, Ok, refl, IsSome, IfSome, true≢false}
+use Rattle.std.proofs.Common.{ap, sym, ◌∙◌, subst, inr, Ok, refl, IsSome, IfSome, true≢false}
 use Rattle.pn_partitions.specs.Partitions.{IsPartTable}
 use Rattle.pn_resolve.specs.Tables.{IsExtent}
 use Rattle.pn_sorts.proofs.SettleLemmas.{bad_extent}

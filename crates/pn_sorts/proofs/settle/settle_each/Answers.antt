@@ -1,4 +1,4 @@
-use Rattle.std.proofs.Common.{◌≡◌, ◌≤◌, ℕ, length, refl, subst, arith}
+use Rattle.std.proofs.Common.{◌≡◌, length, refl, subst, arith}
 use Rattle.pn_faults.specs.Standing.{IsLeastOf}
 use Rattle.pn_sorts.specs.Settling.{IsKnown}
 use Rattle.pn_sorts.proofs.SettleLemmas.{least_more, settled_more}

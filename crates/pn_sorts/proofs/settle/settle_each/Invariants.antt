@@ -1,4 +1,3 @@
-use Rattle.std.proofs.Common.{ℕ}
 use Rattle.pn_faults.specs.Standing.{IsLeastOf}
 use Rattle.pn_sorts.specs.Settling.{AreSettled, IsKnown}
 use Rattle.pn_sorts.proofs.settle.settle_each.Given as goal

@@ -1,4 +1,4 @@
-use Rattle.std.proofs.Common.{◌≡◌, inl, inr, subst, refl}
+use Rattle.std.proofs.Common.{inl, inr, subst, refl}
 use Rattle.pn_faults.specs.Order.{fault_at}
 use Rattle.pn_faults.specs.declared.reason.Reason.TheVariants as reasons
 use Rattle.pn_sorts.specs.Settling.{IsBadFault, IsParting}

@@ -1,4 +1,4 @@
-use Rattle.std.proofs.Common.{◌≡◌, Err, Some, ap, inl, inr, sym, subst, ◌∙◌}
+use Rattle.std.proofs.Common.{Err, Some, ap, inl, inr, sym, subst, ◌∙◌}
 use Rattle.pn_faults.specs.Standing.{IsLeastOf}
 use Rattle.pn_resolve.specs.Meaning.{Resolves}
 use Rattle.pn_resolve.specs.Standing.{StandsInSort}
