@@ -46,13 +46,13 @@ digit here count above is few =
     (mod-eq_of_lt below ∙ sym (mod-eq_of_lt beneath), div-eq_of_lt below ∙ sym (div-eq_of_lt beneath)))
 
 -- what is known before the later parts: what is left of the place, and the choice of those parts, last value first
-pub record Behind (widths : List ℕ) (later : List Sort) (k above : ℕ) (values : List Value) : Type 0 where
+pub record BehindParts (widths : List ℕ) (later : List Sort) (k above : ℕ) (values : List Value) : Type 0 where
   pub quotient : above ≡ k / length (choices (map (carrier widths) later))
   pub stands : slice_get (choices (map (carrier widths) later)) (k % length (choices (map (carrier widths) later))) ≡ Some (reverse values)
 
 behind_part : (widths : List ℕ) (part : Sort) (later : List Sort) (k above digit : ℕ) (v : Value) (values : List Value)
     → 0 < length (carrier widths part) → 0 < length (choices (map (carrier widths) later)) → digit ≡ above % length (carrier widths part) → slice_get (carrier widths part) digit ≡ Some v
-    → Behind widths later k above values → Behind widths (part ∷ later) k (above / length (carrier widths part)) (values ++ v ∷ [])
+    → BehindParts widths later k above values → BehindParts widths (part ∷ later) k (above / length (carrier widths part)) (values ++ v ∷ [])
 behind_part widths part later k above digit v values some some_later is at b =
     let here = length (carrier widths part) in
     let after = length (choices (map (carrier widths) later)) in
@@ -68,19 +68,19 @@ behind_part widths part later k above digit v values some some_later is at b =
           ∙ ap Some (sym (reverse-append values (v ∷ [])));
     }
 
-module _ (widths : List ℕ) (parts : List Sort) (k : ℕ) (below : k < length (choices (map (carrier widths) parts))) (few : k < 2 ^ 64) (left above : ℕ) (values : List Value) (b : Behind widths (drop left parts) k above values) where
+module _ (widths : List ℕ) (parts : List Sort) (k : ℕ) (below : k < length (choices (map (carrier widths) parts))) (few : k < 2 ^ 64) (left above : ℕ) (values : List Value) (b : BehindParts widths (drop left parts) k above values) where
   above_few : above < 2 ^ 64
   above_few = omega (arith, b.quotient, div-le_self k (length (choices (map (carrier widths) (drop left parts)))))
 
   -- the step of the loop over the parts of a product
   pub behind_next : (i : ℕ) (part : Sort) (count digit_here : ℕ) (v : Value) → i + 1 ≡ left → i < length parts → part ≡ get_or parts i part → count ≡ min (length (carrier widths part)) (2 ^ 64)
-      → digit_here ≡ above % count → slice_get (carrier widths part) digit_here ≡ Some v → Behind widths (drop i parts) k (above / count) (values ++ v ∷ [])
+      → digit_here ≡ above % count → slice_get (carrier widths part) digit_here ≡ Some v → BehindParts widths (drop i parts) k (above / count) (values ++ v ∷ [])
   behind_next i part count digit_here v next lt is count_is digit_is at =
       let d = digit (length (carrier widths part)) count above count_is above_few in
       let some = part_some widths parts i part (omega arith) lt is in
-      let later : Behind widths (drop (i + 1) parts) k above values = subst (λ n. Behind widths (drop n parts) k above values) (sym next) b in
-      subst (λ ps. Behind widths ps k (above / count) (values ++ v ∷ [])) (sym (drop_next parts i part lt is))
-      (subst (λ n. Behind widths (part ∷ drop (i + 1) parts) k n (values ++ v ∷ [])) (sym d.1)
+      let later : BehindParts widths (drop (i + 1) parts) k above values = subst (λ n. BehindParts widths (drop n parts) k above values) (sym next) b in
+      subst (λ ps. BehindParts widths ps k (above / count) (values ++ v ∷ [])) (sym (drop_next parts i part lt is))
+      (subst (λ n. BehindParts widths (part ∷ drop (i + 1) parts) k n (values ++ v ∷ [])) (sym d.1)
       (behind_part widths part (drop (i + 1) parts) k above digit_here v values some (last_some widths parts (i + 1) (omega arith)) (digit_is ∙ d.0) at later))
 
   -- the digit of a part is a place in its carrier
@@ -93,7 +93,7 @@ module _ (widths : List ℕ) (parts : List Sort) (k : ℕ) (below : k < length (
 
   pub behind_all : left ≡ 0 → slice_get (choices (map (carrier widths) parts)) k ≡ Some (reverse values)
   behind_all none =
-      let whole : Behind widths parts k above values = subst (λ n. Behind widths (drop n parts) k above values) none b in
+      let whole : BehindParts widths parts k above values = subst (λ n. BehindParts widths (drop n parts) k above values) none b in
       ap (slice_get (choices (map (carrier widths) parts))) (sym (mod-eq_of_lt below)) ∙ whole.stands
 
 pub part_finite : (parts : List Sort) (i : ℕ) (part : Sort) → list_all is_finite parts ≡ true → i < length parts → part ≡ get_or parts i part → is_finite part ≡ true

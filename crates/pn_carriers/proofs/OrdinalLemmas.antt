@@ -40,14 +40,14 @@ pub record SoFar (widths : List ℕ) (parts : List Sort) (values : List Value) (
       → slice_get (choices (map (carrier widths) parts)) (place * length (choices (map (carrier widths) left)) + r) ≡ Some values
 
 -- what is known of the next part
-pub record Next (widths : List ℕ) (part : Sort) (value : Value) (place most : ℕ) : Type 0 where
+pub record NextPart (widths : List ℕ) (part : Sort) (value : Value) (place most : ℕ) : Type 0 where
   pub finite : is_finite part ≡ true
   pub member : is_member widths part value ≡ true
   pub few : (place + 1) * length (carrier widths part) ≤ most
   pub size : length (carrier widths part) ≤ most
 
 next_at : (widths : List ℕ) (parts : List Sort) (values : List Value) (part : Sort) (rest : List Sort) (value : Value) (more : List Value) (place : ℕ)
-    → SoFar widths parts values (part ∷ rest) (value ∷ more) place → Next widths part value place (length (choices (map (carrier widths) parts)))
+    → SoFar widths parts values (part ∷ rest) (value ∷ more) place → NextPart widths part value place (length (choices (map (carrier widths) parts)))
 next_at widths parts values part rest value more place s =
     let finite = and_left (is_finite part) (list_all is_finite rest) s.finite in
     let member = and_left (is_member widths part value) (pass_each (map (is_member widths) rest) more) s.member in
@@ -111,7 +111,7 @@ module _ (widths : List ℕ) (parts : List Sort) (values : List Value) (i : ℕ)
       subst (λ vs. SoFar widths parts values (part ∷ drop (i + 1) parts) vs place) (drop_next values i value (value_there lt) here)
       (subst (λ ps. SoFar widths parts values ps (drop i values) place) (drop_next parts i part lt is) s)
 
-  pub next : (part : Sort) (value : Value) → i < length parts → part ≡ get_or parts i part → value ≡ get_or values i value → Next widths part value place (length (choices (map (carrier widths) parts)))
+  pub next : (part : Sort) (value : Value) → i < length parts → part ≡ get_or parts i part → value ≡ get_or values i value → NextPart widths part value place (length (choices (map (carrier widths) parts)))
   next part value lt is here = next_at widths parts values part (drop (i + 1) parts) value (drop (i + 1) values) place (opened part value lt is here)
 
   pub more : (part : Sort) (value : Value) (o : ℕ) → i < length parts → part ≡ get_or parts i part → value ≡ get_or values i value → slice_get (carrier widths part) o ≡ Some value

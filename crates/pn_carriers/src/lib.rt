@@ -13,6 +13,3 @@ pub use members::has_value;
 pub use ordinals::ordinal;
 pub use sizes::size;
 pub use values::nth;
-
-#[cfg(test)]
-mod tests;

@@ -2,3 +2,4 @@ pub mod Truths
 pub mod Options
 pub mod Lists
 pub mod Bytes
+pub mod Contained

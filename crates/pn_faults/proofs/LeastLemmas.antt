@@ -39,8 +39,24 @@ module _ {K : Type 0} {R : K → K → Ordering} (total : IsTotalOrder R) where
 comes_before_all : (f g h : Fault) → comes_before f g ≡ true → comes_before g h ≡ true → comes_before f h ≡ true
 comes_before_all f g h = before_all faults_total f g h
 
-comes_before_none : (f g h : Fault) → comes_before f g ≡ false → comes_before g h ≡ false → comes_before f h ≡ false
+pub comes_before_none : (f g h : Fault) → comes_before f g ≡ false → comes_before g h ≡ false → comes_before f h ≡ false
 comes_before_none f g h = before_none faults_total f g h
+
+-- a fault that comes before another is not behind it
+one_way : (o p : Ordering) → o ≡ ordering_reverse p → is_lt o ≡ true → is_lt p ≡ false
+one_way o Less is h = let bad : is_lt (ordering_reverse Less) ≡ true = sym (ap is_lt is) ∙ h in absurd cc
+one_way o Equal is h = refl
+one_way o Greater is h = refl
+
+pub not_behind : (f g : Fault) → comes_before f g ≡ true → comes_before g f ≡ false
+not_behind f g h = one_way (fault_cmp f g) (fault_cmp g f) (faults_total.antisymm f g) h
+
+pub not_before_itself : (f : Fault) → comes_before f f ≡ false
+not_before_itself f = step (comes_before f f) refl
+  where
+    step : (b : Bool) → comes_before f f ≡ b → comes_before f f ≡ false
+    step true h = not_behind f f h
+    step false h = h
 
 module _ (before : Fault → Fault → Bool) (all : (f g h : Fault) → before f g ≡ true → before g h ≡ true → before f h ≡ true) (none : (f g h : Fault) → before f g ≡ false → before g h ≡ false → before f h ≡ false) where
   -- the lower of three, from the left and from the right

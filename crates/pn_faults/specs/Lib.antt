@@ -2,3 +2,4 @@ pub mod Reasons
 pub mod Order
 pub mod Least
 pub mod Standing
+pub mod Walks

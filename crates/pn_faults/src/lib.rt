@@ -5,8 +5,6 @@ mod fault;
 pub mod laws;
 mod least;
 mod reason;
-#[cfg(test)]
-mod tests;
 
 pub use fault::{Fault, Refusal};
 pub use least::{keep_least, keep_least_at, keep_least_of};

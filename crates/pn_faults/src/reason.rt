@@ -78,7 +78,7 @@ impl Reason {
     }
 
     /// The place of the reason among all, from 1 to 30.
-    pub(crate) fn number(&self) -> u8
+    pub fn number(&self) -> u8
         ensures { result ≡ number_of self.now }
     {
         *self as u8 + 1
@@ -86,7 +86,7 @@ impl Reason {
 
     /// The phase in which the reason is looked for: 1 is the shape, 2 ids and links, 3 sorts and 4
     /// typing.
-    pub(crate) fn phase(&self) -> u8
+    pub fn phase(&self) -> u8
         ensures { result ≡ phase_of self.now }
     {
         match self.number() {

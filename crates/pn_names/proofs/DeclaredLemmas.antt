@@ -8,12 +8,11 @@ use Rattle.std.proofs.lemmas.Option.{none-some, same_Some, option_and_then_some,
 use Rattle.pn_syntax.specs.declared.declaration.Declaration.{Declaration}
 use Rattle.pn_syntax.specs.declared.declaration.Declaration.TheVariants as declarations
 use Rattle.pn_values.specs.declared.constant_ref.ConstantRef.{ConstantRef}
+use Rattle.pn_ids.proofs.NotingLemmas.{Names}
 use Rattle.pn_names.specs.declared.Declared.{Declared}
 use Rattle.pn_names.specs.declared.Declared.TheVariants as declared
-use Rattle.pn_names.specs.Names.{id_of, constant_ids, numbered, own_name, with_variable, names_in, names_from, names_of, named_in, meaning_of, variables_in, variables_of, variable_of, variable_at, variable_places_from, variable_places_of, Declares, AreDistinct, IsConstant, constant_ref, variable_name, Variable}
-
-abbrev Names : Type 0
-Names = List (List ℕ × Declared)
+use Rattle.pn_ids.specs.Names.{named_in, AreDistinct}
+use Rattle.pn_names.specs.Names.{id_of, constant_ids, numbered, own_name, with_variable, names_in, names_from, names_of, meaning_of, variables_in, variables_of, variable_of, variable_at, variable_places_from, variable_places_of, Declares, IsConstant, constant_ref, variable_name, Variable}
 
 -- what stands behind a front
 pub slice_get_at : {A : Type 0} (front : List A) (x : A) (rest : List A) → slice_get (front ++ x ∷ rest) (length front) ≡ Some x
@@ -31,7 +30,7 @@ all_append P [] ys f g = g
 all_append P (x ∷ xs) ys f g = (f.0, all_append P xs ys f.1 g)
 
 -- what holds of all ids with what they name, holds of what is found
-all_named : (P : List ℕ → Declared → Type 0) (ns : Names) → AllByRecursion (λ n. P n.0 n.1) ns → (id : List ℕ) (m : Declared) → named_in ns id ≡ Some m → P id m
+all_named : (P : List ℕ → Declared → Type 0) (ns : Names Declared) → AllByRecursion (λ n. P n.0 n.1) ns → (id : List ℕ) (m : Declared) → named_in ns id ≡ Some m → P id m
 all_named P [] f id m h = absurd (none-some m h)
 all_named P (n ∷ ns) f id m h = step (bytes_eq id n.0) refl (all_named P ns f.1 id m)
   where
@@ -112,18 +111,18 @@ pub as_many_places : (items : List Declaration) → length (variable_places_of i
 as_many_places items = places_length items 0
 
 -- an id with what it names stands among these
-abbrev Stands : Names → List ℕ → Declared → Type 0
-Stands ns id m = (i : ℕ) × (slice_get ns i ≡ Some (id, m))
+abbrev IsAmong : Names Declared → List ℕ → Declared → Type 0
+IsAmong ns id m = (i : ℕ) × (slice_get ns i ≡ Some (id, m))
 
-stands_left : (xs ys : Names) (id : List ℕ) (m : Declared) → Stands xs id m → Stands (xs ++ ys) id m
+stands_left : (xs ys : Names Declared) (id : List ℕ) (m : Declared) → IsAmong xs id m → IsAmong (xs ++ ys) id m
 stands_left xs ys id m s = (s.0, slice_get_left xs ys s.0 (id, m) s.1)
 
-stands_right : (xs ys : Names) (id : List ℕ) (m : Declared) → Stands ys id m → Stands (xs ++ ys) id m
+stands_right : (xs ys : Names Declared) (id : List ℕ) (m : Declared) → IsAmong ys id m → IsAmong (xs ++ ys) id m
 stands_right [] ys id m s = s
 stands_right (x ∷ xs) ys id m s = let t = stands_right xs ys id m s in (suc t.0, t.1)
 
 -- of distinct ids, one that stands there is found
-named_standing : (ns : Names) (i : ℕ) (id : List ℕ) (m : Declared) → AreDistinct ns → slice_get ns i ≡ Some (id, m) → named_in ns id ≡ Some m
+named_standing : (ns : Names Declared) (i : ℕ) (id : List ℕ) (m : Declared) → AreDistinct ns → slice_get ns i ≡ Some (id, m) → named_in ns id ≡ Some m
 named_standing [] i id m d h = absurd (none-some (id, m) h)
 named_standing (n ∷ ns) zero id m d h =
     let parts = same_Some n (id, m) h in
@@ -135,7 +134,7 @@ named_standing (n ∷ ns) (suc i) id m d h = step (bytes_eq id n.0) refl (named_
     step true e later = absurd (none-some m (sym (subst (λ (v : List ℕ). named_in ns v ≡ None) (sym ((bytes_eq-Decides id n.0).0 e)) d.0) ∙ later))
     step false e later = ap (λ t. cond t (Some n.1) (named_in ns id)) e ∙ later
 
-constant_stands : (place : ℕ) (ids : List (List ℕ)) (index k : ℕ) (id : List ℕ) → slice_get ids k ≡ Some id → Stands (numbered place index ids) id (declared.Constant (record { declaration = place; index = index + k }))
+constant_stands : (place : ℕ) (ids : List (List ℕ)) (index k : ℕ) (id : List ℕ) → slice_get ids k ≡ Some id → IsAmong (numbered place index ids) id (declared.Constant (record { declaration = place; index = index + k }))
 constant_stands place [] index k id h = absurd (none-some id h)
 constant_stands place (x ∷ ids) index zero id h =
     (0, ap (λ (v : List ℕ). Some (v, declared.Constant (record { declaration = place; index = index }))) (same_Some x id h) ∙ ap (λ (j : ℕ). Some (id, declared.Constant (record { declaration = place; index = j }))) (omega arith))
@@ -144,17 +143,17 @@ constant_stands place (x ∷ ids) index (suc k) id h =
     (suc t.0, t.1 ∙ ap (λ (j : ℕ). Some (id, declared.Constant (record { declaration = place; index = j }))) (omega arith))
 
 -- what a declaration declares at its place stands among the names of all
-at_place : (ds : List Declaration) (start before k place : ℕ) (d : Declaration) (id : List ℕ) (m : Declared) → start + k ≡ place → slice_get ds k ≡ Some d → ((b : ℕ) → Stands (names_in place b d) id m)
-    → Stands (names_from start before ds) id m
+at_place : (ds : List Declaration) (start before k place : ℕ) (d : Declaration) (id : List ℕ) (m : Declared) → start + k ≡ place → slice_get ds k ≡ Some d → ((b : ℕ) → IsAmong (names_in place b d) id m)
+    → IsAmong (names_from start before ds) id m
 at_place [] start before k place d id m here h f = absurd (none-some d h)
 at_place (e ∷ ds) start before zero place d id m here h f =
     let same : place ≡ start = omega arith in
     stands_left (names_in start before e) (names_from (suc start) (with_variable before e) ds) id m
-    (subst (λ (p : ℕ). Stands (names_in p before e) id m) same (subst (λ (x : Declaration). Stands (names_in place before x) id m) (sym (same_Some e d h)) (f before)))
+    (subst (λ (p : ℕ). IsAmong (names_in p before e) id m) same (subst (λ (x : Declaration). IsAmong (names_in place before x) id m) (sym (same_Some e d h)) (f before)))
 at_place (e ∷ ds) start before (suc k) place d id m here h f =
     stands_right (names_in start before e) (names_from (suc start) (with_variable before e) ds) id m (at_place ds (suc start) (with_variable before e) k place d id m (omega arith) h f)
 
-variable_stands : (ds : List Declaration) (start before v : ℕ) (x : Variable) → slice_get (variables_of ds) v ≡ Some x → Stands (names_from start before ds) x.id (declared.Variable (before + v))
+variable_stands : (ds : List Declaration) (start before v : ℕ) (x : Variable) → slice_get (variables_of ds) v ≡ Some x → IsAmong (names_from start before ds) x.id (declared.Variable (before + v))
 variable_stands [] start before v x h = absurd (none-some x h)
 variable_stands (declarations.Named id name body at ∷ ds) start before v x h =
     stands_right (names_in start before (declarations.Named id name body at)) (names_from (suc start) before ds) x.id (declared.Variable (before + v)) (variable_stands ds (suc start) before v x h)
@@ -162,15 +161,15 @@ variable_stands (declarations.Variable id name sort at ∷ ds) start before zero
     (0, ap (λ (y : Variable). Some (y.id, declared.Variable before)) (same_Some (record { id = id; sort = sort }) x h) ∙ ap (λ (j : ℕ). Some (x.id, declared.Variable j)) (omega arith))
 variable_stands (declarations.Variable id name sort at ∷ ds) start before (suc v) x h =
     stands_right (names_in start before (declarations.Variable id name sort at)) (names_from (suc start) (suc before) ds) x.id (declared.Variable (before + suc v))
-    (subst (λ (j : ℕ). Stands (names_from (suc start) (suc before) ds) x.id (declared.Variable j)) (omega arith) (variable_stands ds (suc start) (suc before) v x h))
+    (subst (λ (j : ℕ). IsAmong (names_from (suc start) (suc before) ds) x.id (declared.Variable j)) (omega arith) (variable_stands ds (suc start) (suc before) v x h))
 variable_stands (declarations.Partition id name sort elements at ∷ ds) start before v x h =
     stands_right (names_in start before (declarations.Partition id name sort elements at)) (names_from (suc start) before ds) x.id (declared.Variable (before + v)) (variable_stands ds (suc start) before v x h)
 
-declared_stands : (items : List Declaration) (id : List ℕ) (m : Declared) → Declares items id m → Stands (names_of items) id m
+declared_stands : (items : List Declaration) (id : List ℕ) (m : Declared) → Declares items id m → IsAmong (names_of items) id m
 declared_stands items id (declared.Named place) d = at_place items 0 0 place place (declarations.Named id d.0 d.1 d.2) id (declared.Named place) (omega arith) d.3 (λ b. (0, refl))
 declared_stands items id (declared.Partition place) d = at_place items 0 0 place place (declarations.Partition id d.0 d.1 d.2 d.3) id (declared.Partition place) (omega arith) d.4 (λ b. (0, refl))
 declared_stands items id (declared.Variable number) d =
-    subst (λ (j : ℕ). Stands (names_of items) id (declared.Variable j)) (omega arith) (variable_stands items 0 0 number (record { id = id; sort = d.0 }) d.1)
+    subst (λ (j : ℕ). IsAmong (names_of items) id (declared.Variable j)) (omega arith) (variable_stands items 0 0 number (record { id = id; sort = d.0 }) d.1)
 declared_stands items id (declared.Constant c) h =
     option_and_then_some (λ (d : Declaration). slice_get (constant_ids d) c.index) (slice_get items c.declaration) id h
     (λ d there at. at_place items 0 0 c.declaration c.declaration d id (declared.Constant c) (omega arith) there (λ b.
@@ -209,7 +208,7 @@ constant_is (Some (declared.Variable number)) c h = absurd (none-some c h)
 constant_is (Some (declared.Constant d)) c h = ap (λ e. Some (declared.Constant e)) (same_Some d c h)
 
 -- a constant that is found is there
-pub constant_there : (items : List Declaration) (names : Names) (id : List ℕ) (c : ConstantRef) → names ≡ names_of items → Some c ≡ option_and_then constant_ref (named_in names id) → IsConstant items c
+pub constant_there : (items : List Declaration) (names : Names Declared) (id : List ℕ) (c : ConstantRef) → names ≡ names_of items → Some c ≡ option_and_then constant_ref (named_in names id) → IsConstant items c
 constant_there items names id c same h =
-    let is = found_declared items id (declared.Constant c) (constant_is (named_in (names_of items) id) c (ap (λ (ns : Names). option_and_then constant_ref (named_in ns id)) (sym same) ∙ sym h)) in
+    let is = found_declared items id (declared.Constant c) (constant_is (named_in (names_of items) id) c (ap (λ (ns : Names Declared). option_and_then constant_ref (named_in ns id)) (sym same) ∙ sym h)) in
     ap is_some is

@@ -1,4 +1,1 @@
-pub mod Index
 pub mod Names
-pub mod Partitions
-pub mod Tables

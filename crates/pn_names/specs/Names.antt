@@ -1,8 +1,7 @@
 -- What the ids of declarations name: ISO/IEC 15909-2, declarations of sorts, variables and partitions.
-use Rattle.std.specs.Prelude.{◌≡◌, ◌<◌, ◌^◌, ℕ, suc, List, [], ◌∷◌, ◌++◌, map, length, Option, None, Some, IsSome, if◌then◌else◌}
+use Rattle.std.specs.Prelude.{◌≡◌, ◌<◌, ◌^◌, ℕ, suc, List, [], ◌∷◌, ◌++◌, map, length, Option, None, Some, IsSome}
 use Rattle.std.specs.List.{slice_get, AllByRecursion}
 use Rattle.std.specs.Option.{option_and_then}
-use Rattle.std.specs.Str.{bytes_eq}
 use Rattle.pn_syntax.specs.declared.declaration.Declaration.{Declaration}
 use Rattle.pn_syntax.specs.declared.declaration.Declaration.TheVariants as declarations
 use Rattle.pn_syntax.specs.declared.declaration.SortBody.{SortBody}
@@ -11,6 +10,7 @@ use Rattle.pn_syntax.specs.declared.declaration.Constant.{Constant}
 use Rattle.pn_syntax.specs.declared.declaration.PartElement.{PartElement}
 use Rattle.pn_values.specs.declared.constant_ref.ConstantRef.{ConstantRef}
 use Rattle.pn_syntax.specs.declared.sort_expr.SortExpr.{SortExpr}
+use Rattle.pn_ids.specs.Names.{named_in}
 use Rattle.pn_names.specs.declared.Declared.{Declared}
 use Rattle.pn_names.specs.declared.Declared.TheVariants as declared
 
@@ -79,16 +79,6 @@ names_from place before (d ∷ ds) = names_in place before d ++ names_from (suc 
 -- all ids of the declarations in the order of the document, with what they name
 abbrev pub names_of : List Declaration → List (List ℕ × Declared)
 names_of = names_from 0 0
-
--- what an id names, if it names something
-abbrev pub named_in : List (List ℕ × Declared) → List ℕ → Option Declared
-named_in [] id = None
-named_in (n ∷ ns) id = if bytes_eq id n.0 then Some n.1 else named_in ns id
-
--- no id is given twice
-abbrev pub AreDistinct : List (List ℕ × Declared) → Type 0
-AreDistinct [] = Unit {0}
-AreDistinct (n ∷ ns) = (named_in ns n.0 ≡ None) × AreDistinct ns
 
 -- what an id of these declarations names
 abbrev pub meaning_of : List Declaration → List ℕ → Option Declared

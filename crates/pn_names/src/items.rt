@@ -43,7 +43,7 @@ pub fn constant_count(item: &Declaration) -> usize
 }
 
 /// The id of a constant or element of a declaration.
-fn id_within(item: &Declaration, index: usize) -> &str
+pub(crate) fn id_within(item: &Declaration, index: usize) -> &str
     requires { index < length (constant_ids item.now) }
     ensures { slice_get (constant_ids item.now) index ≡ Some result.now }
 {

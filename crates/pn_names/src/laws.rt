@@ -4,7 +4,8 @@ ghost use Rattle.std.specs.Prelude.{◌≡◌, ℕ, List, Some, length, slice_ge
 ghost use Rattle.std.specs.Option.{option_and_then};
 ghost use Rattle.pn_syntax.specs.declared.declaration.Declaration.{Declaration};
 ghost use Rattle.pn_names.specs.declared.Declared.{Declared};
-ghost use Rattle.pn_names.specs.Names.{names_of, meaning_of, AreDistinct, variables_of, variable_at, variable_places_of, Declares};
+ghost use Rattle.pn_ids.specs.Names.{AreDistinct};
+ghost use Rattle.pn_names.specs.Names.{names_of, meaning_of, variables_of, variable_at, variable_places_of, Declares};
 
 /// What an id names is declared, by that id.
 pub fn named_is_declared()

@@ -1,18 +1,14 @@
-//! What the ids of a document's declarations name, and which values the elements of partitions list.
+//! What the ids of a document's declarations name.
 #![tactic(auto)]
 
 mod items;
 pub mod laws;
 mod names;
-mod partitions;
-#[cfg(test)]
-mod tests;
 
 pub use items::{
     are_numbered, constant_count, constant_id, declaration_id, variable_id, variable_places, widths,
 };
 pub use names::{Index, are_distinct};
-pub use partitions::part_table;
 use pn_values::ConstantRef;
 
 /// What an id of the declarations names. The numbers of a `namedsort` and a `partition` are places

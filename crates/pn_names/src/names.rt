@@ -1,15 +1,14 @@
 //! A look-up of what ids name.
 
-ghost use Rattle.std.specs.Prelude.{◌≡◌, ◌∷◌, ◌++◌, ◌+◌, ◌<◌, ◌^◌, [], List, ℕ, map, length, is_none, IfOk, IfSome, IsSome, IsTrue, ◌↔◌};
+ghost use Rattle.std.specs.Prelude.{◌≡◌, ◌∷◌, ◌++◌, ◌+◌, ◌<◌, ◌^◌, [], List, ℕ, length, is_none, IfOk, IfSome, IsSome, IsTrue, ◌↔◌};
 ghost use Rattle.std.specs.Option.{option_and_then};
-ghost use Rattle.indexmap.specs.IndexMap.{get_by_text};
-ghost use Rattle.pn_names.specs.Index.{entry_names, NotesAll};
-ghost use Rattle.pn_names.specs.Names.{constant_id, element_id, constant_ids, numbered, own_name, with_variable, names_in, names_of, named_in, AreDistinct, AreNumbered, sort_place, partition_place, variable_number, constant_ref};
+ghost use Rattle.pn_ids.specs.Names.{named_in, AreDistinct, NotesAll};
+ghost use Rattle.pn_names.specs.Names.{constant_ids, numbered, own_name, with_variable, names_in, names_of, AreNumbered, sort_place, partition_place, variable_number, constant_ref};
 
 use crate::Declared;
-use crate::items::id_of;
-use indexmap::IndexMap;
-use pn_syntax::{Constant, Declaration, PartElement, SortBody};
+use crate::items::{constant_count, id_of, id_within};
+use pn_ids::Ids;
+use pn_syntax::Declaration;
 use pn_values::ConstantRef;
 use std::alloc::{AllocError, Global};
 use std::marker::Model;
@@ -18,106 +17,40 @@ use std::marker::Model;
 /// of the document.
 #[derive(Drop)]
 pub struct Index {
-    index: IndexMap<String, Declared>,
+    ids: Ids<Declared>,
 }
 
 impl Model for Index {
     ghost use Rattle.std.specs.Prelude.{List, ℕ};
     ghost use Rattle.pn_names.specs.declared.Declared.{Declared};
-    ghost use Rattle.pn_names.specs.Index.{entry_names};
 
     ghost Value = { List (List ℕ × Declared) };
 
-    ghost view = { λ i. entry_names i.index };
-}
-
-/// Something that has an id.
-trait HasId {
-    ghost id_of: { Self → List ℕ };
-
-    fn id(&self) -> &str
-        ensures { result.now ≡ id_of self.now };
-}
-
-impl HasId for Constant {
-    ghost id_of = { constant_id };
-
-    fn id(&self) -> &str {
-        self.id.as_str()
-    }
-}
-
-impl HasId for PartElement {
-    ghost id_of = { element_id };
-
-    fn id(&self) -> &str {
-        self.id.as_str()
-    }
-}
-
-/// Notes what an id names, where it is new; says whether it is.
-fn note(
-    alloc: Global,
-    index: &mut IndexMap<String, Declared>,
-    id: &str,
-    declared: Declared,
-) -> Result<bool, AllocError>
-    ensures fresh { IfOk result (λ b. b ≡ is_none (get_by_text index.old id.now)) }
-    ensures put { IfOk result (λ b. IsTrue b → entry_names index.new ≡ entry_names index.old ++ (id.now, declared) ∷ []) }
-    ensures notes { IfOk result (NotesAll (entry_names index.old) (entry_names index.new) ((id.now, declared) ∷ [])) }
-{
-    let key = String::from_str(alloc, id)?;
-    let old = index.insert(key, declared)?;
-    Ok(old.is_none())
-}
-
-/// Notes the ids of the constants or elements of the declaration at `place`, until one is not new;
-/// says whether all are.
-fn note_numbered<T: HasId>(
-    alloc: Global,
-    index: &mut IndexMap<String, Declared>,
-    parts: &[T],
-    place: u32,
-) -> Result<bool, AllocError>
-    requires { length parts.now < 2 ^ 32 }
-    ensures { IfOk result (NotesAll (entry_names index.old) (entry_names index.new) (numbered place 0 (map T.id_of parts.now))) }
-{
-    let mut number: u32 = 0;
-    for part in parts {
-        let constant = ConstantRef {
-            declaration: place,
-            index: number,
-        };
-        if !note(alloc, index, part.id(), Declared::Constant(constant))? {
-            return Ok(false);
-        }
-        number += 1;
-    }
-    Ok(true)
+    ghost view = { λ i. i.ids };
 }
 
 /// Notes the ids of the constants or elements of a declaration, until one is not new; says whether
 /// all are.
 fn note_constants(
     alloc: Global,
-    index: &mut IndexMap<String, Declared>,
+    ids: &mut Ids<Declared>,
     item: &Declaration,
     place: u32,
 ) -> Result<bool, AllocError>
     requires { length (constant_ids item.now) < 2 ^ 32 }
-    ensures { IfOk result (NotesAll (entry_names index.old) (entry_names index.new) (numbered place 0 (constant_ids item.now))) }
+    ensures { IfOk result (NotesAll ids.old ids.new (numbered place 0 (constant_ids item.now))) }
 {
-    match item {
-        Declaration::Named { body, .. } => match body {
-            SortBody::Plain(_) => Ok(true),
-            SortBody::Finite(constants) => note_numbered(alloc, index, constants.as_slice(), place),
-            SortBody::Cyclic(constants) => note_numbered(alloc, index, constants.as_slice(), place),
-        },
-        Declaration::Variable { .. } => Ok(true),
-        Declaration::Partition { elements, .. } => {
-            note_numbered(alloc, index, elements.as_slice(), place)
+    let count = constant_count(item);
+    for number in 0..count {
+        let constant = ConstantRef {
+            declaration: place,
+            index: number as u32,
+        };
+        if !ids.note(alloc, id_within(item, number), Declared::Constant(constant))? {
+            return Ok(false);
         }
     }
+    Ok(true)
 }
 
 /// What the id of a declaration names.
@@ -145,33 +78,33 @@ fn with_variable(item: &Declaration, before: u32) -> u32
 /// Notes all ids of a declaration, until one is not new; says whether all are.
 fn note_item(
     alloc: Global,
-    index: &mut IndexMap<String, Declared>,
+    ids: &mut Ids<Declared>,
     item: &Declaration,
     place: u32,
     before: u32,
 ) -> Result<bool, AllocError>
     requires { length (constant_ids item.now) < 2 ^ 32 }
-    ensures { IfOk result (NotesAll (entry_names index.old) (entry_names index.new) (names_in place before item.now)) }
+    ensures { IfOk result (NotesAll ids.old ids.new (names_in place before item.now)) }
 {
-    if !note(alloc, index, id_of(item), own_name(item, place, before))? {
+    if !ids.note(alloc, id_of(item), own_name(item, place, before))? {
         return Ok(false);
     }
-    note_constants(alloc, index, item, place)
+    note_constants(alloc, ids, item, place)
 }
 
 /// Notes all ids of the declarations in order, until one is not new; says whether all are.
 fn note_items(
     alloc: Global,
-    index: &mut IndexMap<String, Declared>,
+    ids: &mut Ids<Declared>,
     items: &[Declaration],
 ) -> Result<bool, AllocError>
     requires { AreNumbered items.now }
-    ensures { IfOk result (NotesAll (entry_names index.old) (entry_names index.new) (names_of items.now)) }
+    ensures { IfOk result (NotesAll ids.old ids.new (names_of items.now)) }
 {
     let mut place: u32 = 0;
     let mut before: u32 = 0;
     for item in items {
-        if !note_item(alloc, index, item, place, before)? {
+        if !note_item(alloc, ids, item, place, before)? {
             return Ok(false);
         }
         before = with_variable(item, before);
@@ -180,18 +113,15 @@ fn note_items(
     Ok(true)
 }
 
-/// A map with all ids of the declarations, or none where one is given twice.
-fn noted(
-    alloc: Global,
-    items: &[Declaration],
-) -> Result<Option<IndexMap<String, Declared>>, AllocError>
+/// All ids of the declarations, or none where one is given twice.
+fn noted(alloc: Global, items: &[Declaration]) -> Result<Option<Ids<Declared>>, AllocError>
     requires { AreNumbered items.now }
-    ensures distinct { IfOk result (λ index. IsSome index ↔ AreDistinct (names_of items.now)) }
-    ensures names { IfOk result (λ index. IfSome index (λ i. entry_names i ≡ names_of items.now)) }
+    ensures distinct { IfOk result (λ ids. IsSome ids ↔ AreDistinct (names_of items.now)) }
+    ensures names { IfOk result (λ ids. IfSome ids (λ i. i ≡ names_of items.now)) }
 {
-    let mut index = IndexMap::new(alloc);
-    if note_items(alloc, &mut index, items)? {
-        Ok(Some(index))
+    let mut ids = Ids::new(alloc);
+    if note_items(alloc, &mut ids, items)? {
+        Ok(Some(ids))
     } else {
         Ok(None)
     }
@@ -202,15 +132,8 @@ pub fn are_distinct(alloc: Global, items: &[Declaration]) -> Result<bool, AllocE
     requires { AreNumbered items.now }
     ensures { IfOk result (λ b. IsTrue b ↔ AreDistinct (names_of items.now)) }
 {
-    let index = noted(alloc, items)?;
-    Ok(index.is_some())
-}
-
-/// What this id names in a map.
-fn entry_at(index: &IndexMap<String, Declared>, id: &str) -> Option<Declared>
-    ensures { result ≡ get_by_text index.now id.now }
-{
-    index.get(id).copied()
+    let ids = noted(alloc, items)?;
+    Ok(ids.is_some())
 }
 
 impl Index {
@@ -221,7 +144,7 @@ impl Index {
         ensures { IfOk result (λ i. i ≡ names_of items.now) }
     {
         match noted(alloc, items)? {
-            Some(index) => Ok(Index { index }),
+            Some(ids) => Ok(Index { ids }),
             None => unreachable!(),
         }
     }
@@ -230,7 +153,7 @@ impl Index {
     pub fn find(&self, id: &str) -> Option<Declared>
         ensures { result ≡ named_in self.now id.now }
     {
-        entry_at(&self.index, id)
+        self.ids.find(id)
     }
 
     /// The place of the `namedsort` or `partition` of this id.

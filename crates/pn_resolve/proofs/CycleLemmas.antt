@@ -1,10 +1,7 @@
 -- Cycles of graphs of declarations, and declarations that lead back to themselves.
-use Rattle.std.proofs.Common.{◌≡◌, ◌⊎◌, inl, inr, ◌↔◌, ℕ, ◌+◌, ◌<◌, ◌==◌, ◌||◌, Bool, true, false, IsTrue, List, [], ◌∷◌, ◌++◌, length, get_or, slice_index_or, Some, refl, sym, ap, ◌∙◌, subst, arith, length-append}
+use Rattle.std.proofs.Common.{◌≡◌, ◌⊎◌, inl, inr, ◌↔◌, ℕ, ◌<◌, ◌==◌, ◌||◌, Bool, true, false, IsTrue, List, length, get_or, slice_index_or, Some, refl, sym, ap, ◌∙◌, arith}
 use Rattle.std.specs.List.{slice_get}
 use Rattle.std.proofs.lemmas.Bool.Decides.{nat_tests}
-use Rattle.std.proofs.lemmas.Bool.{cases_lt}
-use Rattle.std.proofs.lemmas.List.{get_or_append_left}
-use Rattle.std.proofs.Math.Seq.{get_or-append_seam}
 use Rattle.pn_syntax.specs.declared.declaration.Declaration.{Declaration}
 use Rattle.pn_resolve.specs.Links.{TellsCyclesOf}
 use Rattle.pn_resolve.specs.declared.links.Sources.TheVariants as source
@@ -33,9 +30,6 @@ or_true : (a : Bool) → (a || true) ≡ true
 or_true true = refl
 or_true false = refl
 
-named_or : (b : Bool) → (true || b) ≡ true
-named_or b = refl
-
 itself : (place : ℕ) → (place == place) ≡ true
 itself place = grind (arith, nat_tests)
 
@@ -55,17 +49,3 @@ own_cycle items on_cycle place t lt =
 pub record CyclesSoFar (items : List Declaration) (count : ℕ) (told : List Bool) : Type 0 where
   pub sized : length told ≡ count
   pub each : (k : ℕ) → k < count → IsTrue (get_or told k false) ↔ LeadsTo items k k
-
-pub next_cycle : (items : List Declaration) (i : ℕ) (told : List Bool) (b : Bool) → CyclesSoFar items i told → (IsTrue b ↔ LeadsTo items i i) → CyclesSoFar items (i + 1) (told ++ b ∷ [])
-next_cycle items i told b before here = record {
-  sized = omega (arith, length-append told (b ∷ []), before.sized);
-  each = λ k below. elim (cases_lt k i) [
-    | inl first ↦ subst (λ x. IsTrue x ↔ LeadsTo items k k) (sym (get_or_append_left told (b ∷ []) false k (omega (arith, before.sized)))) (before.each k first)
-    | inr last ↦ (
-        let at : i ≡ k = omega arith in
-        let place : length told ≡ k = omega (arith, before.sized) in
-        let is_b : b ≡ get_or (told ++ b ∷ []) k false = sym (get_or-append_seam told b [] false) ∙ ap (λ n. get_or (told ++ b ∷ []) n false) place in
-        subst (λ n. IsTrue (get_or (told ++ b ∷ []) k false) ↔ LeadsTo items n n) at (subst (λ x. IsTrue x ↔ LeadsTo items i i) is_b here)
-        )
-  ];
-}

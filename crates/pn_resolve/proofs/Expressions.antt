@@ -12,15 +12,15 @@ use Rattle.pn_syntax.specs.declared.sort_expr.SortNode.TheFolds.{fold-SortNode, 
 use Rattle.pn_resolve.specs.declared.extent.Extent.{Extent}
 use Rattle.pn_resolve.specs.Meaning.{node_sort, sort_with}
 use Rattle.pn_resolve.specs.Telling.{Told, told_node, told}
-use Rattle.pn_resolve.specs.Standing.{IsPart, itself, product, list}
-use Rattle.pn_resolve.proofs.Lists.{contains_nil, contains_cases}
+use Rattle.pn_resolve.specs.Standing.{IsSortPart, itself, product, list}
+use Rattle.pn_facts.proofs.Contained.{contains_nil, contains_cases}
 
 -- one layer of an expression
-abbrev pub Layer : Type 0
-Layer = layer.SortNode-F SortNode SortExpr
+abbrev pub NodeLayer : Type 0
+NodeLayer = layer.SortNode-F SortNode SortExpr
 
 -- the expression stands directly in the layer
-abbrev pub IsIn : Layer → SortExpr → Type 0
+abbrev pub IsIn : NodeLayer → SortExpr → Type 0
 IsIn layer.Dot p = ⊥
 IsIn layer.Bool p = ⊥
 IsIn (layer.Range start end) p = ⊥
@@ -42,7 +42,7 @@ module _ (P : SortExpr → Type 0) where
   abbrev NodeWithProof : Type 0
   NodeWithProof = (n : SortNode) × AtNode n
 
-  abbrev plain : layer.SortNode-F NodeWithProof WithProof → Layer
+  abbrev plain : layer.SortNode-F NodeWithProof WithProof → NodeLayer
   plain y = map-SortNode NodeWithProof WithProof SortNode SortExpr (λ n. n.0) (λ e. e.0) y
 
   in_list : (ps : List WithProof) (p : SortExpr) → Contains (map (λ e. e.0) ps) p → P p
@@ -66,19 +66,19 @@ module _ (P : SortExpr → Type 0) where
   parts_have (layer.List part) p is = subst P (sym is) part.1
 
   -- what an expression has where each part of its layer has it, each expression has
-  pub expr_ind : ((l : Layer) (e : SortExpr) → out-SortNode e.node ≡ l → ((p : SortExpr) → IsIn l p → P p) → P e) → (e : SortExpr) → P e
+  pub expr_ind : ((l : NodeLayer) (e : SortExpr) → out-SortNode e.node ≡ l → ((p : SortExpr) → IsIn l p → P p) → P e) → (e : SortExpr) → P e
   expr_ind step = ind-SortExpr AtNode P
       (λ x y is. λ e at. step (plain y) e (ap out-SortNode at ∙ out-roll-SortNode x ∙ sym is) (parts_have y))
       (λ x y is. subst (λ z. P (record { at = z.at; node = z.node })) is (y.node.1 (record { at = y.at; node = y.node.0 }) refl))
 
-pub told_at : (known : List ℕ → Option Extent) (e : SortExpr) (l : Layer) → out-SortNode e.node ≡ l
+pub told_at : (known : List ℕ → Option Extent) (e : SortExpr) (l : NodeLayer) → out-SortNode e.node ≡ l
     → told known e ≡ told_node known (map-SortNode SortNode SortExpr (ℕ → Told) Told (fold-SortNode (ℕ → Told) Told (told_node known) (λ e. e.node e.at)) (told known) l) e.at
 told_at known e l is =
     fold_out-SortExpr (ℕ → Told) Told (told_node known) (λ e. e.node e.at) e
     ∙ ap (λ f. f e.at) (fold_out-SortNode (ℕ → Told) Told (told_node known) (λ e. e.node e.at) e.node)
     ∙ ap (λ m. told_node known (map-SortNode SortNode SortExpr (ℕ → Told) Told (fold-SortNode (ℕ → Told) Told (told_node known) (λ e. e.node e.at)) (told known) m) e.at) is
 
-pub sort_at : (means : List ℕ → Option Sort) (e : SortExpr) (l : Layer) → out-SortNode e.node ≡ l
+pub sort_at : (means : List ℕ → Option Sort) (e : SortExpr) (l : NodeLayer) → out-SortNode e.node ≡ l
     → sort_with means e ≡ node_sort means (map-SortNode SortNode SortExpr (Option Sort) (Option Sort) (fold-SortNode (Option Sort) (Option Sort) (node_sort means) (λ e. e.node)) (sort_with means) l)
 sort_at means e l is =
     fold_out-SortExpr (Option Sort) (Option Sort) (node_sort means) (λ e. e.node) e
@@ -109,7 +109,7 @@ is_user n name is = sym (roll-out-SortNode n) ∙ ap roll-SortNode is ∙ rolls-
 pub is_range : (n : SortNode) (start end : ℤ) → out-SortNode n ≡ layer.Range start end → n ≡ nodes.Range start end
 is_range n start end is = sym (roll-out-SortNode n) ∙ ap roll-SortNode is ∙ rolls-Range start end
 
-pub part_of_part : (l : Layer) (e p x : SortExpr) → out-SortNode e.node ≡ l → IsIn l p → IsPart p x → IsPart e x
+pub part_of_part : (l : NodeLayer) (e p x : SortExpr) → out-SortNode e.node ≡ l → IsIn l p → IsSortPart p x → IsSortPart e x
 part_of_part layer.Dot e p x at is w = absurd is
 part_of_part layer.Bool e p x at is w = absurd is
 part_of_part (layer.Range start end) e p x at is w = absurd is
@@ -119,13 +119,13 @@ part_of_part layer.Integer e p x at is w = absurd is
 part_of_part layer.Natural e p x at is w = absurd is
 part_of_part layer.Positive e p x at is w = absurd is
 part_of_part layer.Text e p x at is w = absurd is
-part_of_part (layer.List part) e p x at is w = list e x part (is_list e.node part at) (subst (λ y. IsPart y x) is w)
+part_of_part (layer.List part) e p x at is w = list e x part (is_list e.node part at) (subst (λ y. IsSortPart y x) is w)
 
 -- each name in an expression is such a one
 abbrev pub NamesIn : (List ℕ → Type 0) → SortExpr → Type 0
-NamesIn Q e = (x : SortExpr) (name : List ℕ) → IsPart e x → x.node ≡ nodes.User name → Q name
+NamesIn Q e = (x : SortExpr) (name : List ℕ) → IsSortPart e x → x.node ≡ nodes.User name → Q name
 
-pub names_in_part : (Q : List ℕ → Type 0) (l : Layer) (e p : SortExpr) → out-SortNode e.node ≡ l → IsIn l p → NamesIn Q e → NamesIn Q p
+pub names_in_part : (Q : List ℕ → Type 0) (l : NodeLayer) (e p : SortExpr) → out-SortNode e.node ≡ l → IsIn l p → NamesIn Q e → NamesIn Q p
 names_in_part Q l e p at is all = λ x name part node. all x name (part_of_part l e p x at is part) node
 
 pub name_itself : (Q : List ℕ → Type 0) (e : SortExpr) (name : List ℕ) → out-SortNode e.node ≡ layer.User name → NamesIn Q e → Q name

@@ -23,8 +23,8 @@ use Rattle.pn_resolve.specs.Extents.{measured, extent_of, beside, all_beside, ar
 use Rattle.pn_resolve.specs.Meaning.{range_sort, all_sorts, sort_with}
 use Rattle.pn_resolve.specs.Standing.{IsBig}
 use Rattle.pn_resolve.specs.Telling.{told_extent, told_range, told_name, told, single}
-use Rattle.pn_resolve.proofs.Lists.{contains_nil, contains_first, contains_next, contains_cases}
-use Rattle.pn_resolve.proofs.Expressions.{Layer, IsIn, expr_ind, sort_at, told_at, NamesIn, names_in_part, name_itself}
+use Rattle.pn_facts.proofs.Contained.{contains_nil, contains_first, contains_next, contains_cases}
+use Rattle.pn_resolve.proofs.Expressions.{NodeLayer, IsIn, expr_ind, sort_at, told_at, NamesIn, names_in_part, name_itself}
 
 pub fits_is : (d n : ℕ) → d ≤ MAX_DEPTH → n ≤ MAX_NODES → measured d n ≡ Fits d n
 fits_is d n a b = grind (arith, nat_tests)
@@ -176,7 +176,7 @@ module _ (known : List ℕ → Option Extent) (m : List ℕ → Option Sort) whe
   around_one None = refl
   around_one (Some s) = around_measured (depth_of s) (nodes_of s) ∙ ap (λ x. measured x (suc (nodes_of s))) (sym (depth_list s)) ∙ ap (measured (depth_of (sorts.List s))) (sym (nodes_list s))
 
-  right_step : (l : Layer) (e : SortExpr) → out-SortNode e.node ≡ l → ((p : SortExpr) → IsIn l p → IsRight p) → IsRight e
+  right_step : (l : NodeLayer) (e : SortExpr) → out-SortNode e.node ≡ l → ((p : SortExpr) → IsIn l p → IsRight p) → IsRight e
   right_step layer.Dot e at have names = ap told_extent (told_at known e layer.Dot at) ∙ single_dot ∙ sym (ap extent_of (sort_at m e layer.Dot at))
   right_step layer.Bool e at have names = ap told_extent (told_at known e layer.Bool at) ∙ single_bool ∙ sym (ap extent_of (sort_at m e layer.Bool at))
   right_step (layer.Range start end) e at have names = ap told_extent (told_at known e (layer.Range start end) at) ∙ range_told e.at start end ∙ sym (ap extent_of (sort_at m e (layer.Range start end) at))

@@ -15,11 +15,12 @@ use Rattle.pn_names.specs.Names.{sort_named}
 use Rattle.pn_resolve.specs.declared.extent.Extent.{Extent}
 use Rattle.pn_resolve.specs.declared.extent.Extent.TheVariants.{NoSort, TooBig, Fits}
 use Rattle.pn_resolve.specs.Extents.{beside, all_beside, around}
-use Rattle.pn_resolve.specs.Standing.{IsPart, itself, product, list, layer_name, element_name, IsTooBig, StandsAt, unknown_sort, sort_too_big, empty_range, StandsIn}
+use Rattle.pn_resolve.specs.Standing.{IsSortPart, itself, product, list, layer_name, element_name, IsTooBig, StandsAtSort, unknown_sort, sort_too_big, empty_range, StandsInSort}
 use Rattle.pn_resolve.specs.Telling.{Told, told_extent, told_faults, single, told_name, told_parts, too_big, told_big, told_inside, told_node, told}
 use Rattle.pn_resolve.proofs.ExtentLemmas.{measured_not_none}
-use Rattle.pn_resolve.proofs.Lists.{contains_nil, contains_first, contains_next, contains_left, contains_right, contains_either, contains_all_of, contains_some_of, contains_one}
-use Rattle.pn_resolve.proofs.Expressions.{Layer, IsIn, expr_ind, told_at, out_product, out_list, out_user, out_range, is_user, is_range, part_of_part}
+use Rattle.pn_facts.proofs.Contained.{contains_nil, contains_first, contains_next, contains_all_of, contains_some_of, contains_one}
+use Rattle.std.proofs.lemmas.List.Elements.{Contains-append_left, Contains-append_right, Contains-append_cases}
+use Rattle.pn_resolve.proofs.Expressions.{NodeLayer, IsIn, expr_ind, told_at, out_product, out_list, out_user, out_range, is_user, is_range, part_of_part}
 
 -- the faults of parts stand among those of the whole
 module _ (known : List ℕ → Option Extent) (f : Fault) where
@@ -33,19 +34,19 @@ module _ (known : List ℕ → Option Extent) (f : Fault) where
   in_product : (e p : SortExpr) (parts : List SortExpr) → e.node ≡ nodes.Product parts → Contains parts p → Tells p → Tells e
   in_product e p parts is c tells =
       subst (λ t. Contains (told_faults t) f) (sym (told_at known e (layer.Product parts) (out_product e.node parts is)))
-      (contains_left (flat_map told_faults (map (told known) parts)) _ f (subst (λ l. Contains l f) (sym (told_parts_of parts)) (contains_all_of (λ p. (told known p).faults) parts p f c tells)))
+      (Contains-append_left (flat_map told_faults (map (told known) parts)) _ f (subst (λ l. Contains l f) (sym (told_parts_of parts)) (contains_all_of (λ p. (told known p).faults) parts p f c tells)))
 
   in_list : (e p : SortExpr) → e.node ≡ nodes.List p → Tells p → Tells e
   in_list e p is tells =
       subst (λ t. Contains (told_faults t) f) (sym (told_at known e (layer.List p) (out_list e.node p is)))
-      (contains_left (told known p).faults _ f tells)
+      (Contains-append_left (told known p).faults _ f tells)
 
-  pub told_of_part : (e x : SortExpr) → IsPart e x → Tells x → Tells e
+  pub told_of_part : (e x : SortExpr) → IsSortPart e x → Tells x → Tells e
   told_of_part e x (itself _ _ same) tells = subst Tells same tells
   told_of_part e x (product _ _ p parts is c rest) tells = in_product e p parts is c (told_of_part p x rest tells)
   told_of_part e x (list _ _ p is rest) tells = in_list e p is (told_of_part p x rest tells)
 
-same_name : (known : List ℕ → Option Extent) (l : Layer) → layer_name (map-SortNode SortNode SortExpr (ℕ → Told) Told (fold-SortNode (ℕ → Told) Told (told_node known) (λ e. e.node e.at)) (told known) l) ≡ layer_name l
+same_name : (known : List ℕ → Option Extent) (l : NodeLayer) → layer_name (map-SortNode SortNode SortExpr (ℕ → Told) Told (fold-SortNode (ℕ → Told) Told (told_node known) (λ e. e.node e.at)) (told known) l) ≡ layer_name l
 same_name known layer.Dot = refl
 same_name known layer.Bool = refl
 same_name known (layer.Range start end) = refl
@@ -79,7 +80,7 @@ module _ (items : List Declaration) (known : List ℕ → Option Extent) (right 
       let extent : inside.extent ≡ TooBig = sym (ap told_extent at) ∙ right.big e big in
       let fault : f ≡ fault_at reasons.SortTooBig e.at (layer_name layer_told) = f_is ∙ ap (fault_at reasons.SortTooBig e.at) (sym (same_name known (out-SortNode e.node))) in
       subst (λ t. Contains (told_faults t) f) (sym at)
-      (contains_right inside.faults (too_big e.at (layer_name layer_told) inside.extent) f (subst (λ x. Contains (too_big e.at (layer_name layer_told) x) f) (sym extent) (subst (λ g. Contains (g ∷ []) f) fault (contains_first f []))))
+      (Contains-append_right inside.faults (too_big e.at (layer_name layer_told) inside.extent) f (subst (λ x. Contains (too_big e.at (layer_name layer_told) x) f) (sym extent) (subst (λ g. Contains (g ∷ []) f) fault (contains_first f []))))
 
   told_empty : (e : SortExpr) (f : Fault) (start end : ℤ) → e.node ≡ nodes.Range start end → int_lt end start ≡ true → f ≡ fault_at reasons.EmptyRange e.at (codes "finiteintrange") → Contains (told known e).faults f
   told_empty e f start end is empty f_is =
@@ -87,31 +88,31 @@ module _ (items : List Declaration) (known : List ℕ → Option Extent) (right 
       told_at known e (layer.Range start end) (out_range e.node start end is) ∙ ap (λ b. told_big e.at (codes "finiteintrange") (cond b (record { extent = NoSort; faults = fault_at reasons.EmptyRange e.at (codes "finiteintrange") ∷ [] }) single)) empty in
       subst (λ t. Contains (told_faults t) f) (sym at) (subst (λ g. Contains (fault_at reasons.EmptyRange e.at (codes "finiteintrange") ∷ []) g) (sym f_is) (contains_first (fault_at reasons.EmptyRange e.at (codes "finiteintrange")) []))
 
-  told_of_element : (e : SortExpr) (f : Fault) → StandsAt items e f → Contains (told known e).faults f
+  told_of_element : (e : SortExpr) (f : Fault) → StandsAtSort items e f → Contains (told known e).faults f
   told_of_element e f (unknown_sort _ _ name is none f_is) = told_unknown e f name is none f_is
   told_of_element e f (sort_too_big _ _ big f_is) = told_too_big e f big f_is
   told_of_element e f (empty_range _ _ start end is empty f_is) = told_empty e f start end is empty f_is
 
   -- each fault that stands in an expression is told of it
-  pub stands_told : (e : SortExpr) (f : Fault) → StandsIn items e f → Contains (told known e).faults f
+  pub stands_told : (e : SortExpr) (f : Fault) → StandsInSort items e f → Contains (told known e).faults f
   stands_told e f stands = told_of_part known f e stands.0 stands.1 (told_of_element stands.0 f stands.2)
 
   abbrev AllStand : SortExpr → Type 0
-  AllStand e = (f : Fault) → Contains (told known e).faults f → StandsIn items e f
+  AllStand e = (f : Fault) → Contains (told known e).faults f → StandsInSort items e f
 
-  here : (e : SortExpr) (f : Fault) → StandsAt items e f → StandsIn items e f
+  here : (e : SortExpr) (f : Fault) → StandsAtSort items e f → StandsInSort items e f
   here e f stands = (e, itself e e refl, stands)
 
-  big_stands : (e : SortExpr) (l : Layer) (f : Fault) (x : Extent) → out-SortNode e.node ≡ l → (told known e).extent ≡ x → Contains (too_big e.at (layer_name l) x) f → StandsIn items e f
+  big_stands : (e : SortExpr) (l : NodeLayer) (f : Fault) (x : Extent) → out-SortNode e.node ≡ l → (told known e).extent ≡ x → Contains (too_big e.at (layer_name l) x) f → StandsInSort items e f
   big_stands e l f NoSort at is c = absurd (contains_nil f c)
   big_stands e l f TooBig at is c =
       here e f (sort_too_big e f (right.only_big e is) (contains_one (fault_at reasons.SortTooBig e.at (layer_name l)) f c ∙ ap (λ m. fault_at reasons.SortTooBig e.at (layer_name m)) (sym at)))
   big_stands e l f (Fits d n) at is c = absurd (contains_nil f c)
 
-  from_part : (l : Layer) (e p : SortExpr) (f : Fault) → out-SortNode e.node ≡ l → IsIn l p → StandsIn items p f → StandsIn items e f
+  from_part : (l : NodeLayer) (e p : SortExpr) (f : Fault) → out-SortNode e.node ≡ l → IsIn l p → StandsInSort items p f → StandsInSort items e f
   from_part l e p f at is stands = (stands.0, part_of_part l e p stands.0 at is stands.1, stands.2)
 
-  nothing_told : (l : Layer) (e : SortExpr) (name : List ℕ) → told known e ≡ told_big e.at name single → AllStand e
+  nothing_told : (l : NodeLayer) (e : SortExpr) (name : List ℕ) → told known e ≡ told_big e.at name single → AllStand e
   nothing_told l e name is f c = absurd (contains_nil f (subst (λ t. Contains (told_faults t) f) is c))
 
   range_stands : (e : SortExpr) (start end : ℤ) → out-SortNode e.node ≡ layer.Range start end → (b : Bool) → int_lt end start ≡ b → AllStand e
@@ -130,13 +131,13 @@ module _ (items : List Declaration) (known : List ℕ → Option Extent) (right 
       let told_is : told known e ≡ told_big e.at (codes "usersort") (told_name e.at name (Some x)) = told_at known e (layer.User name) at ∙ ap (λ o. told_big e.at (codes "usersort") (told_name e.at name o)) is in
       big_stands e (layer.User name) f x at (ap told_extent told_is) (subst (λ t. Contains (told_faults t) f) told_is c)
 
-  stand_step : (l : Layer) (e : SortExpr) → out-SortNode e.node ≡ l → ((p : SortExpr) → IsIn l p → AllStand p) → AllStand e
+  stand_step : (l : NodeLayer) (e : SortExpr) → out-SortNode e.node ≡ l → ((p : SortExpr) → IsIn l p → AllStand p) → AllStand e
   stand_step layer.Dot e at have = nothing_told layer.Dot e (codes "dot") (told_at known e layer.Dot at)
   stand_step layer.Bool e at have = nothing_told layer.Bool e (codes "bool") (told_at known e layer.Bool at)
   stand_step (layer.Range start end) e at have = range_stands e start end at (int_lt end start) refl
   stand_step (layer.Product parts) e at have = λ f c.
       let told_is = told_at known e (layer.Product parts) at in
-      let either = contains_either (flat_map told_faults (map (told known) parts)) (too_big e.at (codes "productsort") (around (told_parts (map (told known) parts)).extent)) f (subst (λ t. Contains (told_faults t) f) told_is c) in
+      let either = Contains-append_cases (flat_map told_faults (map (told known) parts)) (too_big e.at (codes "productsort") (around (told_parts (map (told known) parts)).extent)) f (subst (λ t. Contains (told_faults t) f) told_is c) in
       elim either [
         | inl inside ↦ (let p = contains_some_of (λ p. (told known p).faults) parts f (subst (λ l. Contains l f) (told_parts_of known f parts) inside) in from_part (layer.Product parts) e p.0 f at p.1 (have p.0 p.1 f p.2))
         | inr big ↦ big_stands e (layer.Product parts) f (around (told_parts (map (told known) parts)).extent) at (ap told_extent told_is) big
@@ -148,20 +149,20 @@ module _ (items : List Declaration) (known : List ℕ → Option Extent) (right 
   stand_step layer.Text e at have = nothing_told layer.Text e (codes "string") (told_at known e layer.Text at)
   stand_step (layer.List part) e at have = λ f c.
       let told_is = told_at known e (layer.List part) at in
-      let either = contains_either (told known part).faults (too_big e.at (codes "list") (around (told known part).extent)) f (subst (λ t. Contains (told_faults t) f) told_is c) in
+      let either = Contains-append_cases (told known part).faults (too_big e.at (codes "list") (around (told known part).extent)) f (subst (λ t. Contains (told_faults t) f) told_is c) in
       elim either [
         | inl inside ↦ from_part (layer.List part) e part f at refl (have part refl f inside)
         | inr big ↦ big_stands e (layer.List part) f (around (told known part).extent) at (ap told_extent told_is) big
       ]
 
   -- each fault that is told of an expression stands in it
-  pub told_stands : (e : SortExpr) (f : Fault) → Contains (told known e).faults f → StandsIn items e f
+  pub told_stands : (e : SortExpr) (f : Fault) → Contains (told known e).faults f → StandsInSort items e f
   told_stands e f c = expr_ind AllStand stand_step e f c
 
 -- why an expression has no sort: a fault is told of it, or a name in it means something without a sort
 pub data Why (known : List ℕ → Option Extent) : SortExpr → Type 0 where
   by_fault : (e : SortExpr) (f : Fault) → Contains (told known e).faults f → Why known e
-  by_name : (e x : SortExpr) (name : List ℕ) → IsPart e x → x.node ≡ nodes.User name → known name ≡ Some NoSort → Why known e
+  by_name : (e x : SortExpr) (name : List ℕ) → IsSortPart e x → x.node ≡ nodes.User name → known name ≡ Some NoSort → Why known e
 
 module _ (known : List ℕ → Option Extent) where
   abbrev HasWhy : SortExpr → Type 0
@@ -188,11 +189,11 @@ module _ (known : List ℕ → Option Extent) where
     | inr later ↦ inr (later.0, contains_next p ps later.0 later.1, later.2)
   ]
 
-  why_whole : (l : Layer) (e p : SortExpr) → out-SortNode e.node ≡ l → IsIn l p → Why known p → Why known e
+  why_whole : (l : NodeLayer) (e p : SortExpr) → out-SortNode e.node ≡ l → IsIn l p → Why known p → Why known e
   why_whole l e p at is (by_fault _ f c) = by_fault e f (told_of_part known f e p (part_of_part l e p p at is (itself p p refl)) c)
   why_whole l e p at is (by_name _ x name part node none) = by_name e x name (part_of_part l e p x at is part) node none
 
-  no_single : (l : Layer) (e : SortExpr) (name : List ℕ) → told known e ≡ told_big e.at name single → HasWhy e
+  no_single : (l : NodeLayer) (e : SortExpr) (name : List ℕ) → told known e ≡ told_big e.at name single → HasWhy e
   no_single l e name is h = let bad : Fits 1 1 ≡ NoSort = sym (ap told_extent is) ∙ h in absurd cc
 
   range_why : (e : SortExpr) (start end : ℤ) → out-SortNode e.node ≡ layer.Range start end → (b : Bool) → int_lt end start ≡ b → HasWhy e
@@ -212,7 +213,7 @@ module _ (known : List ℕ → Option Extent) where
       let none : x ≡ NoSort = sym (ap told_extent told_is) ∙ h in
       by_name e e name (itself e e refl) (is_user e.node name at) (is ∙ ap Some none)
 
-  why_step : (l : Layer) (e : SortExpr) → out-SortNode e.node ≡ l → ((p : SortExpr) → IsIn l p → HasWhy p) → HasWhy e
+  why_step : (l : NodeLayer) (e : SortExpr) → out-SortNode e.node ≡ l → ((p : SortExpr) → IsIn l p → HasWhy p) → HasWhy e
   why_step layer.Dot e at have = no_single layer.Dot e (codes "dot") (told_at known e layer.Dot at)
   why_step layer.Bool e at have = no_single layer.Bool e (codes "bool") (told_at known e layer.Bool at)
   why_step (layer.Range start end) e at have = range_why e start end at (int_lt end start) refl

@@ -1,11 +1,11 @@
 -- The least of faults that are told one after another.
-use Rattle.std.proofs.Common.{◌≡◌, ℕ, suc, ◌+◌, ◌<◌, List, [], ◌∷◌, ◌++◌, length, get_or, take, drop, map, Option, sym, ap, ◌∙◌, arith, drop-cons, append-nil, codes}
+use Rattle.std.proofs.Common.{◌≡◌, ℕ, ◌+◌, ◌<◌, List, [], ◌∷◌, ◌++◌, length, get_or, take, drop, map, Option, sym, ap, ◌∙◌, append-nil, codes}
 use Rattle.std.proofs.lemmas.List.{take_more, map-append}
 use Rattle.std.specs.List.{flat_map}
 use Rattle.std.proofs.lemmas.Grind.{flat_map-append}
 use Rattle.pn_faults.specs.declared.fault.Fault.{Fault}
 use Rattle.pn_faults.specs.Least.{least_fault, lower}
-use Rattle.pn_faults.proofs.LeastLemmas.{lower-assoc, lower-none, least_fault-append}
+use Rattle.pn_faults.proofs.LeastLemmas.{lower-assoc, least_fault-append}
 use Rattle.pn_resolve.specs.declared.extent.Extent.{Extent}
 use Rattle.pn_resolve.specs.Extents.{beside, all_beside}
 use Rattle.pn_resolve.specs.Telling.{Told, told_extent, told_faults, told_parts, told_around, told_big, told}
@@ -14,9 +14,6 @@ use Rattle.pn_syntax.specs.declared.sort_expr.SortNode.TheVariants as nodes
 use Rattle.pn_syntax.specs.declared.sort_expr.SortNode.TheOpen as layer
 use Rattle.pn_resolve.proofs.Expressions.{told_at, out_product, out_list}
 use Rattle.pn_facts.proofs.Lists.{drop_next}
-
-pub kept_nothing : (a : Option Fault) → a ≡ lower a (least_fault [])
-kept_nothing a = sym (lower-none a)
 
 -- some faults and then others
 pub kept_both : (a b c : Option Fault) (fs gs : List Fault) → b ≡ lower a (least_fault fs) → c ≡ lower b (least_fault gs) → c ≡ lower a (least_fault (fs ++ gs))

@@ -6,7 +6,7 @@ pub mod KeepLemmas
 pub mod LeastLemmas
 pub mod LinkLemmas
 pub mod ListingLemmas
-pub mod Lists
+pub mod Options
 pub mod MakeLemmas
 pub mod Meanings
 pub mod NameLemmas

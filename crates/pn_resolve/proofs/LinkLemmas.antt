@@ -14,16 +14,16 @@ use Rattle.pn_cycles.specs.Graphs.{IsEdge, Leads, by_edge, by_path, IsWhole}
 use Rattle.pn_names.specs.Names.{names_of}
 use Rattle.pn_resolve.specs.Links.{places_in, places_of, place_by, places_of_some, leads_from, row_of, IsGraph}
 use Rattle.pn_resolve.specs.declared.links.Sources.{Sources}
-use Rattle.pn_resolve.specs.Standing.{IsPart, itself, product, list, Names, LeadsTo, directly, through, is_named, expr_of}
-use Rattle.pn_resolve.proofs.Lists.{contains_nil, contains_first, contains_one, contains_all_of, contains_some_of}
-use Rattle.pn_resolve.proofs.Expressions.{Layer, IsIn, expr_ind, out_product, out_list, out_user, is_user, part_of_part}
+use Rattle.pn_resolve.specs.Standing.{IsSortPart, itself, product, list, NamesPlace, LeadsTo, directly, through, is_named, expr_of}
+use Rattle.pn_facts.proofs.Contained.{contains_nil, contains_first, contains_one, contains_all_of, contains_some_of}
+use Rattle.pn_resolve.proofs.Expressions.{NodeLayer, IsIn, expr_ind, out_product, out_list, out_user, is_user, part_of_part}
 use Rattle.pn_resolve.proofs.NameLemmas.{place_is_within}
 
 module _ (place : List ℕ → Option ℕ) where
-  abbrev of_layer : Layer → List ℕ
+  abbrev of_layer : NodeLayer → List ℕ
   of_layer l = places_in place (map-SortNode SortNode SortExpr (List ℕ) (List ℕ) (fold-SortNode (List ℕ) (List ℕ) (places_in place) (λ e. e.node)) (places_of place) l)
 
-  places_at : (e : SortExpr) (l : Layer) → out-SortNode e.node ≡ l → places_of place e ≡ of_layer l
+  places_at : (e : SortExpr) (l : NodeLayer) → out-SortNode e.node ≡ l → places_of place e ≡ of_layer l
   places_at e l is =
       fold_out-SortExpr (List ℕ) (List ℕ) (places_in place) (λ e. e.node) e
       ∙ fold_out-SortNode (List ℕ) (List ℕ) (places_in place) (λ e. e.node) e.node
@@ -34,7 +34,7 @@ module _ (place : List ℕ → Option ℕ) where
   flat (p ∷ ps) = ap (λ l. places_of place p ++ l) (flat ps)
 
   -- the place of each name in an expression is one of its places
-  pub places_complete : (e x : SortExpr) (name : List ℕ) (k : ℕ) → IsPart e x → x.node ≡ nodes.User name → place name ≡ Some k → Contains (places_of place e) k
+  pub places_complete : (e x : SortExpr) (name : List ℕ) (k : ℕ) → IsSortPart e x → x.node ≡ nodes.User name → place name ≡ Some k → Contains (places_of place e) k
   places_complete e x name k (itself _ _ same) node is =
       subst (λ l. Contains l k) (sym (places_at e (layer.User name) (out_user e.node name (ap (λ y. y.node) (sym same) ∙ node)) ∙ ap option_to_list is)) (contains_first k [])
   places_complete e x name k (product _ _ p parts node c rest) at is =
@@ -45,21 +45,21 @@ module _ (place : List ℕ → Option ℕ) where
   pub record IsNamedIn (e : SortExpr) (k : ℕ) : Type 0 where
     pub part : SortExpr
     pub name : List ℕ
-    pub is_part : IsPart e part
+    pub is_part : IsSortPart e part
     pub is_user : part.node ≡ nodes.User name
     pub is_place : place name ≡ Some k
 
   abbrev AreNamed : SortExpr → Type 0
   AreNamed e = (k : ℕ) → Contains (places_of place e) k → IsNamedIn e k
 
-  lifted : (l : Layer) (e p : SortExpr) (k : ℕ) → out-SortNode e.node ≡ l → IsIn l p → IsNamedIn p k → IsNamedIn e k
+  lifted : (l : NodeLayer) (e p : SortExpr) (k : ℕ) → out-SortNode e.node ≡ l → IsIn l p → IsNamedIn p k → IsNamedIn e k
   lifted l e p k at is n = record { part = n.part; name = n.name; is_part = part_of_part l e p n.part at is n.is_part; is_user = n.is_user; is_place = n.is_place }
 
   user_named : (e : SortExpr) (name : List ℕ) → out-SortNode e.node ≡ layer.User name → (o : Option ℕ) → place name ≡ o → (k : ℕ) → Contains (option_to_list o) k → IsNamedIn e k
   user_named e name at None is k c = absurd (contains_nil k c)
   user_named e name at (Some j) is k c = record { part = e; name = name; is_part = itself e e refl; is_user = is_user e.node name at; is_place = is ∙ ap Some (sym (contains_one j k c)) }
 
-  named_step : (l : Layer) (e : SortExpr) → out-SortNode e.node ≡ l → ((p : SortExpr) → IsIn l p → AreNamed p) → AreNamed e
+  named_step : (l : NodeLayer) (e : SortExpr) → out-SortNode e.node ≡ l → ((p : SortExpr) → IsIn l p → AreNamed p) → AreNamed e
   named_step layer.Dot e at have k c = absurd (contains_nil k (subst (λ l. Contains l k) (places_at e layer.Dot at) c))
   named_step layer.Bool e at have k c = absurd (contains_nil k (subst (λ l. Contains l k) (places_at e layer.Bool at) c))
   named_step (layer.Range start end) e at have k c = absurd (contains_nil k (subst (λ l. Contains l k) (places_at e (layer.Range start end) at) c))
@@ -89,7 +89,7 @@ module _ (items : List Declaration) (sources : Sources) (graph : List (List ℕ)
     pub declaration : Declaration
     pub stands : slice_get items from ≡ Some declaration
     pub is_source : leads_from sources from declaration ≡ true
-    pub names : Names items from to
+    pub names : NamesPlace items from to
 
   row_names : (from to : ℕ) (d : Declaration) → slice_get items from ≡ Some d → (o : Option SortExpr) → expr_of d ≡ o → (b : Bool) → leads_from sources from d ≡ b
       → Contains (cond b (places_of_some (place_by (names_of items)) o) []) to → Edge from to
@@ -110,7 +110,7 @@ module _ (items : List Declaration) (sources : Sources) (graph : List (List ℕ)
     | inr out ↦ absurd (contains_nil to (subst (λ l. Contains l to) (past_end graph from (omega (arith, is.sized, out.0))) e))
   ]
 
-  pub names_edge : (from to : ℕ) (n : Names items from to) → leads_from sources from n.declaration ≡ true → IsEdge graph from to
+  pub names_edge : (from to : ℕ) (n : NamesPlace items from to) → leads_from sources from n.declaration ≡ true → IsEdge graph from to
   names_edge from to n source =
       let row : row_of (names_of items) sources from n.declaration ≡ places_of (place_by (names_of items)) n.whole =
       ap (λ b. cond b (places_of_some (place_by (names_of items)) (expr_of n.declaration)) []) source ∙ ap (places_of_some (place_by (names_of items))) n.is_sort in
@@ -128,13 +128,13 @@ module _ (items : List Declaration) (sources : Sources) (graph : List (List ℕ)
 
   -- where edges lead only from `namedsort`s and from the declaration in question, what leads there in the graph leads there in the declarations
   pub leads_to : (target : ℕ) → ((place : ℕ) (d : Declaration) → leads_from sources place d ≡ true → (is_named d ≡ true) ⊎ (place ≡ target)) → (from to : ℕ) → Leads graph from to → to ≡ target → LeadsTo items from target
-  leads_to target only from to (by_edge e) same = directly from target (subst (λ k. Names items from k) same (edge_names from to e).names)
+  leads_to target only from to (by_edge e) same = directly from target (subst (λ k. NamesPlace items from k) same (edge_names from to e).names)
   leads_to target only from to (by_path {via = via} e rest) same =
       let next = first_edge via to rest in
       let edge = edge_names via next.0 next.1 in
       elim (only via edge.declaration edge.is_source) [
         | inl named ↦ through from via target (edge_names from via e).names (edge.declaration, edge.stands, named) (leads_to target only via to rest same)
-        | inr here ↦ directly from target (subst (λ k. Names items from k) here (edge_names from via e).names)
+        | inr here ↦ directly from target (subst (λ k. NamesPlace items from k) here (edge_names from via e).names)
       ]
 
   -- where edges lead from all `namedsort`s, what leads somewhere in the declarations leads there in the graph

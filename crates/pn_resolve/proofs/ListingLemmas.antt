@@ -15,9 +15,10 @@ use Rattle.pn_syntax.specs.declared.sort_expr.SortExpr.{SortExpr}
 use Rattle.pn_names.specs.Names.{id_of, at_of}
 use Rattle.pn_resolve.specs.declared.extent.Extent.{Extent}
 use Rattle.pn_resolve.specs.Listing.{cycle_faults, expr_faults, sort_faults, value_faults, element_faults, range_faults, faults_of}
-use Rattle.pn_resolve.specs.Standing.{StandsIn, StandsBesides, in_sort, sort_cycle, constant_range, LeadsTo, expr_of, elements_of, IsListed, HasEmptyRange, at_of_constant}
+use Rattle.pn_resolve.specs.Standing.{StandsInSort, StandsBesides, in_sort, sort_cycle, constant_range, LeadsTo, expr_of, elements_of, IsListed, HasEmptyRange, at_of_constant}
 use Rattle.pn_resolve.specs.Telling.{told}
-use Rattle.pn_resolve.proofs.Lists.{contains_nil, contains_first, contains_left, contains_right, contains_either, contains_all_of, contains_some_of, contains_at, at_contains, contains_one}
+use Rattle.pn_facts.proofs.Contained.{contains_nil, contains_first, contains_all_of, contains_some_of, contains_at, at_contains, contains_one}
+use Rattle.std.proofs.lemmas.List.Elements.{Contains-append_left, Contains-append_right, Contains-append_cases}
 use Rattle.pn_resolve.proofs.KeepLemmas.{kept_both}
 use Rattle.pn_resolve.proofs.LeastLemmas.{least_of}
 
@@ -49,29 +50,21 @@ pub record FaultsSoFar (items : List Declaration) (known : List ℕ → Option E
   pub all : (f : Fault) (k : ℕ) (d : Declaration) → k < count → slice_get items k ≡ Some d → Contains (faults_of known (get_or cycles k false) d) f → Contains faults f
   pub only : (f : Fault) → Contains faults f → IsListedBefore items known cycles count f
 
-pub none_so_far : (items : List Declaration) (known : List ℕ → Option Extent) (cycles : List Bool) → FaultsSoFar items known cycles 0 None
-none_so_far items known cycles = record {
-  faults = [];
-  is = refl;
-  all = λ f k d lt stands c. absurd (omega arith);
-  only = λ f c. absurd (contains_nil f c);
-}
-
 pub next_so_far : (items : List Declaration) (known : List ℕ → Option Extent) (cycles : List Bool) (i : ℕ) (x : Declaration) (least new : Option Fault) → i < length items → x ≡ get_or items i x
     → FaultsSoFar items known cycles i least → new ≡ lower least (least_fault (faults_of known (get_or cycles i false) x)) → FaultsSoFar items known cycles (i + 1) new
 next_so_far items known cycles i x least new lt x_is before is = record {
   faults = before.faults ++ here;
   is = kept_both None least new before.faults here before.is is;
   all = λ f k d below stands c. elim (cases_lt k i) [
-    | inl first ↦ contains_left before.faults here f (before.all f k d first stands c)
+    | inl first ↦ Contains-append_left before.faults here f (before.all f k d first stands c)
     | inr last ↦ (
         let at : k ≡ i = omega arith in
         let item : Some d ≡ Some x = sym stands ∙ ap (slice_get items) at ∙ stands_here in
         let same : d ≡ x = cc in
-        contains_right before.faults here f (subst (λ y. Contains (faults_of known (get_or cycles i false) y) f) same (subst (λ n. Contains (faults_of known (get_or cycles n false) d) f) at c))
+        Contains-append_right before.faults here f (subst (λ y. Contains (faults_of known (get_or cycles i false) y) f) same (subst (λ n. Contains (faults_of known (get_or cycles n false) d) f) at c))
         )
   ];
-  only = λ f c. elim (contains_either before.faults here f c) [
+  only = λ f c. elim (Contains-append_cases before.faults here f c) [
     | inl a ↦ (let l = before.only f a in record { place = l.place; declaration = l.declaration; is_before = omega (arith, l.is_before); stands = l.stands; listed = l.listed })
     | inr b ↦ record { place = i; declaration = x; is_before = omega arith; stands = stands_here; listed = b }
   ];
@@ -83,12 +76,12 @@ next_so_far items known cycles i x least new lt x_is before is = record {
     stands_here : slice_get items i ≡ Some x
     stands_here = slice_get-get_or items i x lt ∙ ap Some (sym x_is)
 
-module _ (items : List Declaration) (known : List ℕ → Option Extent) (all_told : (e : SortExpr) (f : Fault) → StandsIn items e f → Contains (told known e).faults f) (all_stand : (e : SortExpr) (f : Fault) → Contains (told known e).faults f → StandsIn items e f)
+module _ (items : List Declaration) (known : List ℕ → Option Extent) (all_told : (e : SortExpr) (f : Fault) → StandsInSort items e f → Contains (told known e).faults f) (all_stand : (e : SortExpr) (f : Fault) → Contains (told known e).faults f → StandsInSort items e f)
     (cycles : List Bool) (tells : (place : ℕ) → place < length items → IsTrue (get_or cycles place false) ↔ LeadsTo items place place) where
   abbrev of_place : ℕ → Declaration → List Fault
   of_place k d = faults_of known (get_or cycles k false) d
 
-  in_expr : (d : Declaration) (e : SortExpr) (f : Fault) → expr_of d ≡ Some e → StandsIn items e f → Contains (sort_faults known d) f
+  in_expr : (d : Declaration) (e : SortExpr) (f : Fault) → expr_of d ≡ Some e → StandsInSort items e f → Contains (sort_faults known d) f
   in_expr d e f is stands = subst (λ o. Contains (expr_faults known o) f) (sym is) (all_told e f stands)
 
   in_cycle : (d : Declaration) (b : Bool) (f : Fault) → b ≡ true → f ≡ fault_at reasons.SortCycle (at_of d) (id_of d) → Contains (cycle_faults b d) f
@@ -103,12 +96,12 @@ module _ (items : List Declaration) (known : List ℕ → Option Extent) (all_to
   listed_all : (count : ℕ) (f : Fault) → length items ≤ count → StandsBesides items f → IsListedBefore items known cycles count f
   listed_all count f le (in_sort _ d e in_items is stands) =
       let at = at_contains items d in_items in
-      placed count at.0 d f le at.1 (contains_right (cycle_faults (get_or cycles at.0 false) d) (sort_faults known d ++ range_faults d) f (contains_left (sort_faults known d) (range_faults d) f (in_expr d e f is stands)))
+      placed count at.0 d f le at.1 (Contains-append_right (cycle_faults (get_or cycles at.0 false) d) (sort_faults known d ++ range_faults d) f (Contains-append_left (sort_faults known d) (range_faults d) f (in_expr d e f is stands)))
   listed_all count f le (sort_cycle _ place d stands leads f_is) =
-      placed count place d f le stands (contains_left (cycle_faults (get_or cycles place false) d) (sort_faults known d ++ range_faults d) f (in_cycle d (get_or cycles place false) f ((tells place (slice_get_within items place d stands)).1 leads) f_is))
+      placed count place d f le stands (Contains-append_left (cycle_faults (get_or cycles place false) d) (sort_faults known d ++ range_faults d) f (in_cycle d (get_or cycles place false) f ((tells place (slice_get_within items place d stands)).1 leads) f_is))
   listed_all count f le (constant_range _ d c in_items listed empty f_is) =
       let at = at_contains items d in_items in
-      placed count at.0 d f le at.1 (contains_right (cycle_faults (get_or cycles at.0 false) d) (sort_faults known d ++ range_faults d) f (contains_right (sort_faults known d) (range_faults d) f (in_range d c f listed empty f_is)))
+      placed count at.0 d f le at.1 (Contains-append_right (cycle_faults (get_or cycles at.0 false) d) (sort_faults known d ++ range_faults d) f (Contains-append_right (sort_faults known d) (range_faults d) f (in_range d c f listed empty f_is)))
 
   cycle_stands : (k : ℕ) (d : Declaration) (f : Fault) → slice_get items k ≡ Some d → (b : Bool) → get_or cycles k false ≡ b → Contains (cycle_faults b d) f → StandsBesides items f
   cycle_stands k d f stands true is c =
@@ -127,9 +120,9 @@ module _ (items : List Declaration) (known : List ℕ → Option Extent) (all_to
       constant_range f d v.0 (contains_at items k d stands) (e.0, e.1, v.1) is.0 is.1
 
   listed_stands : (count : ℕ) (f : Fault) → IsListedBefore items known cycles count f → StandsBesides items f
-  listed_stands count f l = elim (contains_either (cycle_faults (get_or cycles l.place false) l.declaration) (sort_faults known l.declaration ++ range_faults l.declaration) f l.listed) [
+  listed_stands count f l = elim (Contains-append_cases (cycle_faults (get_or cycles l.place false) l.declaration) (sort_faults known l.declaration ++ range_faults l.declaration) f l.listed) [
     | inl a ↦ cycle_stands l.place l.declaration f l.stands (get_or cycles l.place false) refl a
-    | inr b ↦ elim (contains_either (sort_faults known l.declaration) (range_faults l.declaration) f b) [
+    | inr b ↦ elim (Contains-append_cases (sort_faults known l.declaration) (range_faults l.declaration) f b) [
       | inl x ↦ sort_stands l.place l.declaration f l.stands (expr_of l.declaration) refl x
       | inr y ↦ range_stands l.place l.declaration f l.stands y
     ]

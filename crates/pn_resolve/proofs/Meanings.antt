@@ -12,9 +12,10 @@ use Rattle.pn_syntax.specs.declared.sort_expr.SortNode.TheOpen as layer
 use Rattle.pn_syntax.specs.declared.sort_expr.SortNode.TheViews.{out-SortNode}
 use Rattle.pn_names.specs.Names.{sort_named}
 use Rattle.pn_resolve.specs.Meaning.{all_sorts, sort_with, declared_sort, meaning, sort_at_place, Resolves}
-use Rattle.pn_resolve.specs.Standing.{IsPart, itself, product, list, Names, LeadsTo, directly, through, IsNamed, is_named, expr_of}
-use Rattle.pn_resolve.proofs.Lists.{contains_nil, contains_first, contains_next, contains_cases, mapped_some, then_some}
-use Rattle.pn_resolve.proofs.Expressions.{Layer, IsIn, expr_ind, sort_at, out_product, out_list, out_user, NamesIn, names_in_part, name_itself}
+use Rattle.pn_resolve.specs.Standing.{IsSortPart, itself, product, list, NamesPlace, LeadsTo, directly, through, IsNamedSort, is_named, expr_of}
+use Rattle.pn_facts.proofs.Contained.{contains_nil, contains_first, contains_next, contains_cases}
+use Rattle.pn_resolve.proofs.Options.{mapped_some, then_some}
+use Rattle.pn_resolve.proofs.Expressions.{NodeLayer, IsIn, expr_ind, sort_at, out_product, out_list, out_user, NamesIn, names_in_part, name_itself}
 
 -- a list of sorts is one where each of them is one
 pub record Split (o : Option Sort) (os : List (Option Sort)) (ss : List Sort) : Type 0 where
@@ -54,7 +55,7 @@ module _ (Passes : Sort → Type 0) (in_product : (ss : List Sort) → Passes (s
       (all_carried ps (λ x c. have x (contains_next p ps x c)) parts.more parts.is_more (λ s c. passes s (contains_next parts.first parts.more s c)))
       ∙ ap Some parts.whole
 
-  carry : (l : Layer) (e : SortExpr) → out-SortNode e.node ≡ l → ((p : SortExpr) → IsIn l p → Carried p) → Carried e
+  carry : (l : NodeLayer) (e : SortExpr) → out-SortNode e.node ≡ l → ((p : SortExpr) → IsIn l p → Carried p) → Carried e
   carry layer.Dot e at have names s h q = sort_at m2 e layer.Dot at ∙ sym (sort_at m1 e layer.Dot at) ∙ h
   carry layer.Bool e at have names s h q = sort_at m2 e layer.Bool at ∙ sym (sort_at m1 e layer.Bool at) ∙ h
   carry (layer.Range start end) e at have names s h q = sort_at m2 e (layer.Range start end) at ∙ sym (sort_at m1 e (layer.Range start end) at) ∙ h
@@ -124,7 +125,7 @@ parts_have m (q ∷ ps) ss h p c = step (contains_cases q ps p c) (split_sorts (
     step (inl e) split more = (split.first, ap (sort_with m) (sym e) ∙ split.is_first)
     step (inr d) split more = more split.more split.is_more d
 
-pub part_has_sort : (m : List ℕ → Option Sort) (e x : SortExpr) → IsPart e x → (s : Sort) → sort_with m e ≡ Some s → (t : Sort) × (sort_with m x ≡ Some t)
+pub part_has_sort : (m : List ℕ → Option Sort) (e x : SortExpr) → IsSortPart e x → (s : Sort) → sort_with m e ≡ Some s → (t : Sort) × (sort_with m x ≡ Some t)
 part_has_sort m e x (itself _ _ same) s h = (s, ap (sort_with m) same ∙ h)
 part_has_sort m e x (product _ _ p parts is c rest) s h =
     let ss = mapped_some sorts.Product (all_sorts (map (sort_with m) parts)) s (sym (sort_at m e (layer.Product parts) (out_product e.node parts is)) ∙ h) in
@@ -153,7 +154,7 @@ name_below items (suc level) name to s is h = record {
   has = sym (ap (option_and_then (sort_at_place items level)) is) ∙ sym (meaning_next items level name) ∙ h;
 }
 
-plain_below : (items : List Declaration) (from to levels : ℕ) (n : Names items from to) (d : Declaration) → n.declaration ≡ d → is_named d ≡ true → (s : Sort) → declared_sort (meaning items levels) from d ≡ Some s → Lower items levels to
+plain_below : (items : List Declaration) (from to levels : ℕ) (n : NamesPlace items from to) (d : Declaration) → n.declaration ≡ d → is_named d ≡ true → (s : Sort) → declared_sort (meaning items levels) from d ≡ Some s → Lower items levels to
 plain_below items from to levels n (declarations.Named id name (bodies.Plain e) at) is named s h =
     let whole : e ≡ n.whole = let same : Some e ≡ Some n.whole = sym (ap expr_of is) ∙ n.is_sort in cc in
     let part = part_has_sort (meaning items levels) n.whole n.part n.is_part s (ap (sort_with (meaning items levels)) (sym whole) ∙ h) in
@@ -163,7 +164,7 @@ plain_below items from to levels n (declarations.Named id name (bodies.Cyclic co
 plain_below items from to levels n (declarations.Variable id name sort at) is named s h = absurd cc
 plain_below items from to levels n (declarations.Partition id name sort elements at) is named s h = absurd cc
 
-pub named_below : (items : List Declaration) (from to levels : ℕ) → Names items from to → IsNamed items from → (s : Sort) → sort_at_place items levels from ≡ Some s → Lower items levels to
+pub named_below : (items : List Declaration) (from to levels : ℕ) → NamesPlace items from to → IsNamedSort items from → (s : Sort) → sort_at_place items levels from ≡ Some s → Lower items levels to
 named_below items from to levels n named s h =
     let d = then_some (declared_sort (meaning items levels) from) (slice_get items from) s h in
     let a : Some n.declaration ≡ Some d.0 = sym n.stands ∙ d.1 in
@@ -172,19 +173,19 @@ named_below items from to levels n named s h =
     let e : named.0 ≡ d.0 = cc in
     plain_below items from to levels n d.0 c (sym (ap is_named e) ∙ named.2) s d.2
 
-pub leads_below : (items : List Declaration) (from to levels : ℕ) → LeadsTo items from to → IsNamed items from → (s : Sort) → sort_at_place items levels from ≡ Some s → Lower items levels to
+pub leads_below : (items : List Declaration) (from to levels : ℕ) → LeadsTo items from to → IsNamedSort items from → (s : Sort) → sort_at_place items levels from ≡ Some s → Lower items levels to
 leads_below items from to levels (directly _ _ n) named s h = named_below items from to levels n named s h
 leads_below items from to levels (through _ via _ n via_named rest) named s h =
     let first = named_below items from via levels n named s h in
     let last = leads_below items via to first.level rest via_named first.sort first.has in
     record { level = last.level; is_lower = omega (arith, first.is_lower, last.is_lower); sort = last.sort; has = last.has }
 
-none_below : (items : List Declaration) (place : ℕ) → LeadsTo items place place → IsNamed items place → (bound levels : ℕ) → levels < bound → (s : Sort) → sort_at_place items levels place ≡ Some s → ⊥
+none_below : (items : List Declaration) (place : ℕ) → LeadsTo items place place → IsNamedSort items place → (bound levels : ℕ) → levels < bound → (s : Sort) → sort_at_place items levels place ≡ Some s → ⊥
 none_below items place leads named zero levels lt s h = omega arith
 none_below items place leads named (suc bound) levels lt s h =
     let low = leads_below items place place levels leads named s h in
     none_below items place leads named bound low.level (omega (arith, low.is_lower)) low.sort low.has
 
 -- a `namedsort` that leads back to itself has no sort
-pub no_sort_on_cycle : (items : List Declaration) (place : ℕ) → LeadsTo items place place → IsNamed items place → (levels : ℕ) (s : Sort) → sort_at_place items levels place ≡ Some s → ⊥
+pub no_sort_on_cycle : (items : List Declaration) (place : ℕ) → LeadsTo items place place → IsNamedSort items place → (levels : ℕ) (s : Sort) → sort_at_place items levels place ≡ Some s → ⊥
 no_sort_on_cycle items place leads named levels s h = none_below items place leads named (suc levels) levels (omega arith) s h

@@ -7,8 +7,9 @@ use Rattle.pn_syntax.specs.declared.declaration.Declaration.{Declaration}
 use Rattle.pn_syntax.specs.declared.declaration.Declaration.TheVariants as declarations
 use Rattle.pn_names.specs.declared.Declared.{Declared}
 use Rattle.pn_names.specs.declared.Declared.TheVariants as declared
-use Rattle.pn_names.specs.Names.{id_of, constant_ids, numbered, own_name, with_variable, names_in, names_from, names_of, named_in, sort_place, sort_named}
-use Rattle.pn_resolve.proofs.Lists.{then_some}
+use Rattle.pn_ids.specs.Names.{named_in}
+use Rattle.pn_names.specs.Names.{id_of, constant_ids, numbered, own_name, with_variable, names_in, names_from, names_of, sort_place, sort_named}
+use Rattle.pn_resolve.proofs.Options.{then_some}
 
 named_either : (xs ys : List (List ℕ × Declared)) (id : List ℕ) (x : Declared) → named_in (xs ++ ys) id ≡ Some x → (named_in xs id ≡ Some x) ⊎ (named_in ys id ≡ Some x)
 named_either [] ys id x h = inr h

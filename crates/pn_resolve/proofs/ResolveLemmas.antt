@@ -16,10 +16,11 @@ use Rattle.pn_resolve.specs.declared.extent.Extent.{Extent}
 use Rattle.pn_resolve.specs.declared.extent.Extent.TheVariants.{NoSort, TooBig, Fits}
 use Rattle.pn_resolve.specs.Extents.{extent_of}
 use Rattle.pn_resolve.specs.Meaning.{sort_with, meaning, Resolves, HasNoSort}
-use Rattle.pn_resolve.specs.Standing.{itself, IsBig, sort_too_big, StandsIn, StandsBesides, element_name}
-use Rattle.pn_resolve.specs.Tables.{extent_in, within, small, kept_by, IsExtent, IsTable, KeepsLeast}
+use Rattle.pn_resolve.specs.Standing.{itself, IsBig, sort_too_big, StandsInSort, StandsBesides, element_name}
+use Rattle.pn_faults.specs.Walks.{KeepsLeast}
+use Rattle.pn_resolve.specs.Tables.{extent_in, within, small, kept_by, IsExtent, IsTable}
 use Rattle.pn_resolve.specs.Telling.{told, known_by}
-use Rattle.pn_resolve.proofs.ExtentLemmas.{fits_told, none_told, big_told, small_not_big}
+use Rattle.pn_resolve.proofs.ExtentLemmas.{fits_told, small_not_big}
 use Rattle.pn_resolve.proofs.FaultLemmas.{stands_told, told_stands, Why, by_fault, by_name, why}
 use Rattle.pn_resolve.proofs.LeastLemmas.{least_of}
 use Rattle.pn_resolve.proofs.Meanings.{resolves_once}
@@ -39,14 +40,6 @@ small_some o (Fits d n) is s h =
     let same : fits.sort ≡ s = let e : Some fits.sort ≡ Some s = sym fits.is ∙ sym h in cc in
     (sym h, subst (λ t. IsBig t → ⊥) same (small_not_big fits.sort fits.small))
 
-small_none : (o : Option Sort) (x : Extent) → extent_of o ≡ x → None ≡ within x o → (s : Sort) → o ≡ Some s → IsBig s
-small_none o NoSort is h s some = let bad : None ≡ Some s = sym (none_told o is) ∙ some in absurd cc
-small_none o TooBig is h s some =
-    let big = big_told o is in
-    let same : big.0 ≡ s = let e : Some big.0 ≡ Some s = sym big.1 ∙ some in cc in
-    subst IsBig same big.2
-small_none o (Fits d n) is h s some = let bad : None ≡ Some s = h ∙ some in absurd cc
-
 lower_none : (o : Option Fault) → lower None o ≡ o
 lower_none None = refl
 lower_none (Some f) = refl
@@ -61,19 +54,19 @@ module _ (items : List Declaration) (names : List (List ℕ × Declared)) (exten
   pub extent_true : (x : Extent) → x ≡ (told (known_by names extents) e).extent → IsExtent items e x
   extent_true x is = extent_tells items extents held t.bound right e x (sym (is ∙ ap (λ w. w.extent) renamed))
 
-  pub all_stand : (f : Fault) → Contains (told (known_by names extents) e).faults f → StandsIn items e f
+  pub all_stand : (f : Fault) → Contains (told (known_by names extents) e).faults f → StandsInSort items e f
   all_stand f c = told_stands items (known_by (names_of items) extents) (knows_faults items extents held t.bound right) e f (subst (λ w. Contains w.faults f) renamed c)
 
-  pub all_told : (f : Fault) → StandsIn items e f → Contains (told (known_by names extents) e).faults f
+  pub all_told : (f : Fault) → StandsInSort items e f → Contains (told (known_by names extents) e).faults f
   all_told f stands = subst (λ w. Contains w.faults f) (sym renamed) (stands_told items (known_by (names_of items) extents) (knows_faults items extents held t.bound right) e f stands)
 
-  least_is : (o : Option Fault) → least_fault (told (known_by names extents) e).faults ≡ o → IsLeastOf (StandsIn items e) o
-  least_is o is = least_of (StandsIn items e) (told (known_by names extents) e).faults all_told all_stand o is
+  least_is : (o : Option Fault) → least_fault (told (known_by names extents) e).faults ≡ o → IsLeastOf (StandsInSort items e) o
+  least_is o is = least_of (StandsInSort items e) (told (known_by names extents) e).faults all_told all_stand o is
 
-  pub least_true : (old new : Option Fault) → new ≡ lower old (least_fault (told (known_by names extents) e).faults) → KeepsLeast (StandsIn items e) old new
+  pub least_true : (old new : Option Fault) → new ≡ lower old (least_fault (told (known_by names extents) e).faults) → KeepsLeast (StandsInSort items e) old new
   least_true old new is = record { own = least_fault (told (known_by names extents) e).faults; is_least = least_is (least_fault (told (known_by names extents) e).faults) refl; is_lower = is }
 
-  pub first_least : (o : Option Fault) → o ≡ lower None (least_fault (told (known_by names extents) e).faults) → IsLeastOf (StandsIn items e) o
+  pub first_least : (o : Option Fault) → o ≡ lower None (least_fault (told (known_by names extents) e).faults) → IsLeastOf (StandsInSort items e) o
   first_least o is = least_is o (sym (is ∙ lower_none (least_fault (told (known_by names extents) e).faults)))
 
   found_small : within (told (known_by names extents) e).extent (sort_with (kept_by names held) e) ≡ small (sort_with (meaning items (suc t.bound)) e)
@@ -97,7 +90,7 @@ module _ (items : List Declaration) (names : List (List ℕ × Declared)) (exten
   pub none_true : None ≡ within (told (known_by names extents) e).extent (sort_with (kept_by names held) e) → (s : Sort) → Resolves items e s → IsBig s
   none_true is s resolves = none_by s resolves is (told (known_by names extents) e).extent refl (extent_true (told (known_by names extents) e).extent refl)
 
-  no_sort_at_all : ((f : Fault) → StandsIn items e f → ⊥) → None ≡ within (told (known_by names extents) e).extent (sort_with (kept_by names held) e) → HasNoSort items e
+  no_sort_at_all : ((f : Fault) → StandsInSort items e f → ⊥) → None ≡ within (told (known_by names extents) e).extent (sort_with (kept_by names held) e) → HasNoSort items e
   no_sort_at_all faultless is = λ s resolves.
       let f = fault_at reasons.SortTooBig e.at (element_name e) in
       faultless f (e, itself e e refl, sort_too_big e f (s, resolves, none_true is s resolves) refl)
@@ -111,12 +104,12 @@ module _ (items : List Declaration) (names : List (List ℕ × Declared)) (exten
   behind_name None name named h = absurd cc
   behind_name (Some k) name named h = let none : extent_in extents k ≡ NoSort = cc in t.blame name k named none
 
-  behind : ((f : Fault) → StandsIn items e f → ⊥) → Why (known_by (names_of items) extents) e → (f : Fault) × StandsBesides items f
+  behind : ((f : Fault) → StandsInSort items e f → ⊥) → Why (known_by (names_of items) extents) e → (f : Fault) × StandsBesides items f
   behind faultless (by_fault _ f c) = absurd (faultless f (told_stands items (known_by (names_of items) extents) (knows_faults items extents held t.bound right) e f c))
   behind faultless (by_name _ x name part node none) = behind_name (sort_named items name) name refl none
 
   -- where nothing is built of an expression without faults, it has no sort, and the declarations have a fault
-  pub elsewhere_true : ((f : Fault) → StandsIn items e f → ⊥) → None ≡ within (told (known_by names extents) e).extent (sort_with (kept_by names held) e) → HasNoSort items e × ((f : Fault) → StandsIn items e f → ⊥) × ((f : Fault) × StandsBesides items f)
+  pub elsewhere_true : ((f : Fault) → StandsInSort items e f → ⊥) → None ≡ within (told (known_by names extents) e).extent (sort_with (kept_by names held) e) → HasNoSort items e × ((f : Fault) → StandsInSort items e f → ⊥) × ((f : Fault) × StandsBesides items f)
   elsewhere_true faultless is =
       let none = no_sort_at_all faultless is in
       let gone : (told (known_by (names_of items) extents) e).extent ≡ NoSort = ap (λ w. w.extent) (sym renamed) ∙ extent_none none (told (known_by names extents) e).extent (extent_true (told (known_by names extents) e).extent refl) in

@@ -21,7 +21,7 @@ use Rattle.pn_resolve.specs.Extents.{extent_of}
 use Rattle.pn_resolve.specs.Links.{IsGraph}
 use Rattle.pn_resolve.specs.declared.links.Sources.TheVariants as source
 use Rattle.pn_resolve.specs.Meaning.{sort_with, declared_sort, meaning, sort_at_place}
-use Rattle.pn_resolve.specs.Standing.{IsPart, Names, LeadsTo, IsNamed, is_named, expr_of}
+use Rattle.pn_resolve.specs.Standing.{IsSortPart, NamesPlace, LeadsTo, IsNamedSort, is_named, expr_of}
 use Rattle.pn_resolve.specs.Tables.{extent_in, sort_in, within, small, kept_by, plain_expr, own_sort, extents_with, sorts_with}
 use Rattle.pn_resolve.specs.Telling.{told, known_by}
 use Rattle.pn_resolve.proofs.Expressions.{NamesIn}
@@ -146,13 +146,13 @@ module _ (items : List Declaration) (graph : List (List ℕ)) (is : IsGraph item
 
   -- what a `namedsort` off all cycles names is settled before it
   pub names_settled : (i n : ℕ) (d : Declaration) (e : SortExpr) → i < length nodes → get_or nodes i 0 ≡ n → slice_get items n ≡ Some d → plain_expr d ≡ Some e → (Leads graph n n → ⊥)
-      → (x : SortExpr) (name : List ℕ) → IsPart e x → x.node ≡ written.User name → (place : ℕ) → sort_named items name ≡ Some place → IsSettled items nodes i place
+      → (x : SortExpr) (name : List ℕ) → IsSortPart e x → x.node ≡ written.User name → (place : ℕ) → sort_named items name ≡ Some place → IsSettled items nodes i place
   names_settled i n d e lt n_is stands plain off x name part node place named = elim (slice_get_cases items place).1 [
     | inl in' ↦ (in'.0, in'.2, at in'.0 in'.2 (plain_expr in'.0) refl)
     | inr out ↦ absurd (omega (arith, out.0, place_is_within items name place named))
   ]
     where
-      names : Names items n place
+      names : NamesPlace items n place
       names = record { declaration = d; stands = stands; whole = e; is_sort = (plain_named d e plain).1; part = x; is_part = part; name = name; is_user = node; is_name = named }
 
       edge : IsEdge graph n place
@@ -174,7 +174,7 @@ module _ (items : List Declaration) (graph : List (List ℕ)) (is : IsGraph item
   pub cycle_leads : (n : ℕ) → n < length graph → slice_index_or on_cycle n false ≡ true → LeadsTo items n n
   cycle_leads n lt is' = leads_to items source.Named graph is n (λ place d named. inl named) n n ((tells n lt).0 is') refl
 
-  none_at : (n levels : ℕ) (o : Option Sort) → sort_at_place items levels n ≡ o → LeadsTo items n n → IsNamed items n → sort_at_place items levels n ≡ None
+  none_at : (n levels : ℕ) (o : Option Sort) → sort_at_place items levels n ≡ o → LeadsTo items n n → IsNamedSort items n → sort_at_place items levels n ≡ None
   none_at n levels None is' leads named = is'
   none_at n levels (Some s) is' leads named = absurd (no_sort_on_cycle items n leads named levels s is')
 

@@ -23,10 +23,10 @@ use Rattle.pn_resolve.specs.Extents.{extent_of}
 use Rattle.pn_resolve.specs.Links.{IsGraph}
 use Rattle.pn_resolve.specs.declared.links.Sources.TheVariants as source
 use Rattle.pn_resolve.specs.Meaning.{sort_with, declared_sort, meaning, Resolves}
-use Rattle.pn_resolve.specs.Standing.{IsPart, IsTooBig, StandsBesides, in_sort, sort_cycle}
+use Rattle.pn_resolve.specs.Standing.{IsSortPart, IsTooBig, StandsBesides, in_sort, sort_cycle}
 use Rattle.pn_resolve.specs.Tables.{extent_in, sort_in, within, small, kept_by, plain_expr, IsExtent, IsTable}
 use Rattle.pn_resolve.specs.Telling.{told, known_by}
-use Rattle.pn_resolve.proofs.Lists.{contains_at}
+use Rattle.pn_facts.proofs.Contained.{contains_at}
 use Rattle.pn_resolve.proofs.ExtentLemmas.{fits_told, none_told, big_told, big_extent, small_not_big, single_enumeration, single_partition}
 use Rattle.pn_resolve.proofs.FaultLemmas.{KnowsFaults, told_stands, Why, by_fault, by_name, why}
 use Rattle.pn_resolve.proofs.Meanings.{meaning_grows, sort_grows}
@@ -120,7 +120,7 @@ module _ (items : List Declaration) (graph : List (List ℕ)) (is : IsGraph item
     right = all_right extents held done
 
     from_name : (bound j n : ℕ) (d : Declaration) (e : SortExpr) → Blames extents bound → j < suc bound → j < length nodes → get_or nodes j 0 ≡ n → slice_get items n ≡ Some d → plain_expr d ≡ Some e → (Leads graph n n → ⊥)
-        → (x : SortExpr) (name : List ℕ) → IsPart e x → x.node ≡ written.User name → (o : Option ℕ) → sort_named items name ≡ o → option_map (extent_in extents) o ≡ Some NoSort → HasFault
+        → (x : SortExpr) (name : List ℕ) → IsSortPart e x → x.node ≡ written.User name → (o : Option ℕ) → sort_named items name ≡ o → option_map (extent_in extents) o ≡ Some NoSort → HasFault
     from_name bound j n d e before lt inside n_is stands plain off x name part node None named h = absurd cc
     from_name bound j n d e before lt inside n_is stands plain off x name part node (Some k) named h =
         let none : extent_in extents k ≡ NoSort = cc in

@@ -8,7 +8,8 @@ use Rattle.pn_syntax.specs.declared.sort_expr.SortNode.TheOpen as layer
 use Rattle.pn_syntax.specs.declared.sort_expr.SortNode.TheFolds.{fold-SortExpr}
 use Rattle.pn_names.specs.declared.Declared.{Declared}
 use Rattle.pn_cycles.specs.Orders.{TellsCycles}
-use Rattle.pn_names.specs.Names.{named_in, names_of, sort_place}
+use Rattle.pn_ids.specs.Names.{named_in}
+use Rattle.pn_names.specs.Names.{names_of, sort_place}
 use Rattle.pn_resolve.specs.Standing.{expr_of, is_named}
 use Rattle.pn_resolve.specs.declared.links.Sources.{Sources}
 use Rattle.pn_resolve.specs.declared.links.Sources.TheVariants.{All, Named, NamedAnd}

@@ -2,8 +2,6 @@
 use Rattle.std.specs.Prelude.{◌≡◌, ◌≤◌, ℕ, List, Bool, true, false, Option, Some, None, slice_index_or, slice_set}
 use Rattle.std.specs.Option.{option_and_then}
 use Rattle.pn_faults.specs.declared.fault.Fault.{Fault}
-use Rattle.pn_faults.specs.Least.{lower}
-use Rattle.pn_faults.specs.Standing.{IsLeastOf}
 use Rattle.pn_syntax.specs.declared.declaration.Declaration.{Declaration}
 use Rattle.pn_syntax.specs.declared.declaration.Declaration.TheVariants as declarations
 use Rattle.pn_syntax.specs.declared.declaration.SortBody.TheVariants as bodies
@@ -11,7 +9,8 @@ use Rattle.pn_values.specs.declared.sort.Sort.{Sort}
 use Rattle.pn_values.specs.declared.sort.Sort.TheVariants as sorts
 use Rattle.pn_syntax.specs.declared.sort_expr.SortExpr.{SortExpr}
 use Rattle.pn_names.specs.declared.Declared.{Declared}
-use Rattle.pn_names.specs.Names.{named_in, names_of, sort_place, sort_named}
+use Rattle.pn_ids.specs.Names.{named_in}
+use Rattle.pn_names.specs.Names.{names_of, sort_place, sort_named}
 use Rattle.pn_resolve.specs.declared.extent.Extent.{Extent}
 use Rattle.pn_resolve.specs.declared.extent.Extent.TheVariants.{NoSort, TooBig, Fits}
 use Rattle.pn_resolve.specs.Extents.{extent_of}
@@ -92,9 +91,3 @@ abbrev pub IsExtent : List Declaration → SortExpr → Extent → Type 0
 IsExtent items e NoSort = HasNoSort items e
 IsExtent items e TooBig = IsTooBig items e
 IsExtent items e (Fits depth nodes) = (s : Sort) × Resolves items e s × (IsBig s → ⊥) × (depth ≡ depth_of s) × (nodes ≡ nodes_of s)
-
--- the least of the faults for which P holds, or of what was kept where that comes no later, is kept
-pub record KeepsLeast (P : Fault → Type 0) (old new : Option Fault) : Type 0 where
-  pub own : Option Fault
-  pub is_least : IsLeastOf P own
-  pub is_lower : new ≡ lower old own

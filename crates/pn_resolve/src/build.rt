@@ -1,6 +1,8 @@
 //! The sort of an expression.
 
 ghost use Rattle.std.specs.Prelude.{◌≡◌, IfOk, map};
+ghost use Rattle.std.specs.Option.{option_map};
+ghost use Rattle.pn_values.specs.declared.sort.Sort.TheVariants as variants;
 ghost use Rattle.pn_resolve.specs.Meaning.{all_sorts, range_sort, sort_with};
 ghost use Rattle.pn_resolve.specs.Tables.{kept_by, sort_in, within};
 
@@ -44,19 +46,45 @@ fn build(
         SortNode::Dot => Ok(Some(Sort::Dot)),
         SortNode::Bool => Ok(Some(Sort::Bool)),
         SortNode::Range { start, end } => Ok(range(*start, *end)),
-        SortNode::Product(parts) => match build_all(alloc, index, sorts, parts.as_slice())? {
-            Some(parts) => Ok(Some(Sort::Product(parts))),
-            None => Ok(None),
-        },
+        SortNode::Product(parts) => product(alloc, index, sorts, parts.as_slice()),
         SortNode::User(name) => named(alloc, index, sorts, name),
         SortNode::Integer => Ok(Some(Sort::Integer)),
         SortNode::Natural => Ok(Some(Sort::Natural)),
         SortNode::Positive => Ok(Some(Sort::Positive)),
         SortNode::Text => Ok(Some(Sort::Text)),
-        SortNode::List(part) => match build(alloc, index, sorts, part.get())? {
-            Some(part) => Ok(Some(Sort::List(Boxed::new(alloc, part)?))),
-            None => Ok(None),
-        },
+        SortNode::List(item) => list(alloc, index, sorts, item.get()),
+    }
+}
+
+/// The product of parts, where each has a sort.
+#[cycle(build)]
+fn product(
+    alloc: Global,
+    index: &Index,
+    sorts: &[Option<Sort>],
+    parts: &[SortExpr],
+) -> Result<Option<Sort>, AllocError>
+    ensures { IfOk result (λ s. s ≡ option_map variants.Product (all_sorts (map (sort_with (kept_by index.now sorts.now)) parts.now))) }
+{
+    match build_all(alloc, index, sorts, parts)? {
+        Some(parts) => Ok(Some(Sort::Product(parts))),
+        None => Ok(None),
+    }
+}
+
+/// The lists of an item, where that has a sort.
+#[cycle(build)]
+fn list(
+    alloc: Global,
+    index: &Index,
+    sorts: &[Option<Sort>],
+    item: &SortExpr,
+) -> Result<Option<Sort>, AllocError>
+    ensures { IfOk result (λ s. s ≡ option_map variants.List (sort_with (kept_by index.now sorts.now) item.now)) }
+{
+    match build(alloc, index, sorts, item)? {
+        Some(item) => Ok(Some(Sort::List(Boxed::new(alloc, item)?))),
+        None => Ok(None),
     }
 }
 

@@ -26,9 +26,27 @@ pub fn sort_cycles(
 {
     let named = order_by(alloc, items, index, Sources::Named)?;
     let all = order_by(alloc, items, index, Sources::All)?;
+    told_by(alloc, items, index, &named, &all)
+}
+
+/// The same, by what is told of the graph of the `namedsort`s and of the whole graph.
+fn told_by(
+    alloc: Global,
+    items: &[Declaration],
+    index: &Index,
+    named: &Order,
+    all: &Order,
+) -> Result<Vec<bool>, AllocError>
+    requires index { index.now ≡ names_of items.now }
+    requires named { TellsCyclesOf items.now Sources.Named named.now.on_cycle }
+    requires all { TellsCyclesOf items.now Sources.All all.now.on_cycle }
+    ensures sized { IfOk result (λ told. length told.items ≡ length items.now) }
+    ensures told { IfOk result (λ told. (place : ℕ) → place < length items.now → IsTrue (slice_index_or told.items place false) ↔ LeadsTo items.now place place) }
+{
     let mut told = Vec::new(alloc);
     for place in 0..items.len() {
-        told.push(leads_back(alloc, items, index, &named, &all, place)?)?;
+        let leads = leads_back(alloc, items, index, named, all, place)?;
+        told.push(leads)?;
     }
     Ok(told)
 }

@@ -20,6 +20,3 @@ pub use table::Table;
 pub const MAX_DEPTH: u32 = 32;
 /// The greatest number of nodes of a resolved sort.
 pub const MAX_NODES: u32 = 4096;
-
-#[cfg(test)]
-mod tests;

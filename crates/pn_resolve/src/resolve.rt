@@ -6,8 +6,9 @@ ghost use Rattle.pn_faults.specs.Standing.{IsLeastOf};
 ghost use Rattle.pn_syntax.specs.declared.declaration.Declaration.{Declaration};
 ghost use Rattle.pn_values.specs.declared.sort.Sort.{Sort};
 ghost use Rattle.pn_resolve.specs.Meaning.{Resolves, HasNoSort};
-ghost use Rattle.pn_resolve.specs.Standing.{IsBig, IsTooBig, StandsIn, StandsBesides};
-ghost use Rattle.pn_resolve.specs.Tables.{IsTable, IsExtent, KeepsLeast};
+ghost use Rattle.pn_resolve.specs.Standing.{IsBig, IsTooBig, StandsInSort, StandsBesides};
+ghost use Rattle.pn_faults.specs.Walks.{KeepsLeast};
+ghost use Rattle.pn_resolve.specs.Tables.{IsTable, IsExtent};
 
 use crate::build::build_within;
 use crate::walk::walk;
@@ -42,7 +43,7 @@ impl Table {
         least: &mut Option<Fault>,
     ) -> Result<Extent, AllocError>
         ensures extent { IfOk result (λ extent. (items : List Declaration) → IsTable items index.now self.now → IsExtent items expr.now extent) }
-        ensures least { OnOk result ((items : List Declaration) → IsTable items index.now self.now → KeepsLeast (StandsIn items expr.now) least.old least.new) }
+        ensures least { OnOk result ((items : List Declaration) → IsTable items index.now self.now → KeepsLeast (StandsInSort items expr.now) least.old least.new) }
     {
         walk(alloc, index, &self.extents, expr, least)
     }
@@ -71,11 +72,11 @@ impl Table {
         expr: &SortExpr,
     ) -> Result<Sort, ResolveFault>
         ensures ok { (sort : Sort) → result ≡ Ok sort → (items : List Declaration) → IsTable items index.now self.now
-            → Resolves items expr.now sort × ((f : Fault) → StandsIn items expr.now f → ⊥) }
+            → Resolves items expr.now sort × ((f : Fault) → StandsInSort items expr.now f → ⊥) }
         ensures fault { (fault : Fault) → result ≡ Err (ResolveFault.Fault fault) → (items : List Declaration) → IsTable items index.now self.now
-            → IsLeastOf (StandsIn items expr.now) (Some fault) }
+            → IsLeastOf (StandsInSort items expr.now) (Some fault) }
         ensures elsewhere { result ≡ Err ResolveFault.Elsewhere → (items : List Declaration) → IsTable items index.now self.now
-            → HasNoSort items expr.now × ((f : Fault) → StandsIn items expr.now f → ⊥) × ((f : Fault) × StandsBesides items f) }
+            → HasNoSort items expr.now × ((f : Fault) → StandsInSort items expr.now f → ⊥) × ((f : Fault) × StandsBesides items f) }
     {
         let mut least = None;
         let Ok(extent) = walk(alloc, index, &self.extents, expr, &mut least) else {

@@ -1,5 +1,5 @@
 -- What an id names is declared.
-use Rattle.std.proofs.Common.{◌≡◌, ◌<◌, ℕ, List, [], ◌∷◌, length, map, refl, sym, ap, ◌∙◌, subst, Option, Some, None, slice_get, IfSome, IsSome}
+use Rattle.std.proofs.Common.{◌≡◌, ◌<◌, ℕ, List, length, refl, sym, subst, Option, Some, None, slice_get, IfSome, IsSome}
 use Rattle.std.specs.Option.{option_and_then}
 use Rattle.std.proofs.lemmas.Option.{slice_get_within}
 use Rattle.pn_syntax.specs.declared.declaration.Declaration.{Declaration}
@@ -8,7 +8,7 @@ use Rattle.pn_syntax.specs.declared.declaration.SortBody.TheVariants as bodies
 use Rattle.pn_values.specs.declared.constant_ref.ConstantRef.{ConstantRef}
 use Rattle.pn_names.specs.declared.Declared.{Declared}
 use Rattle.pn_names.specs.declared.Declared.TheVariants as declared
-use Rattle.pn_names.specs.Names.{IsConstant, constant_ids, constant_named, constant_ref, id_of_constant, meaning_of, partition_named, partition_place, variable_named, variable_number, variables_of}
+use Rattle.pn_names.specs.Names.{IsConstant, constant_ids, constant_named, constant_ref, meaning_of, partition_named, partition_place, variable_named, variable_number, variables_of}
 use Rattle.pn_names.proofs.DeclaredLemmas.{found_declared}
 use Rattle.pn_resolve.specs.Standing.{base_of}
 use Rattle.pn_sorts.specs.Lookups.{base_expr, sort_at, sort_of_constant}

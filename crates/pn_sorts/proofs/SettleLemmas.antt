@@ -1,5 +1,5 @@
 -- How declarations are settled one after another.
-use Rattle.std.proofs.Common.{◌≡◌, ◌↔◌, ◌<◌, ◌≤◌, ◌+◌, ◌⊎◌, ◌^◌, ℕ, zero, suc, Bool, true, false, IsTrue, List, [], ◌∷◌, ◌++◌, length, map, take, get_or, refl, sym, ap, ◌∙◌, subst, inl, inr, Contains, Option, Some, None, slice_get, IsSome, IfSome, arith, add-one, codes, Result, Err}
+use Rattle.std.proofs.Common.{◌≡◌, ◌<◌, ◌+◌, ◌⊎◌, ◌^◌, ℕ, zero, suc, true, List, [], ◌∷◌, ◌++◌, length, take, get_or, refl, sym, ap, ◌∙◌, subst, inl, inr, Contains, Option, Some, None, slice_get, arith, add-one, codes, Result, Err}
 use Rattle.std.proofs.Math.Seq.{take-suc}
 use Rattle.std.proofs.lemmas.List.Elements.{Contains-append_cases}
 use Rattle.pn_syntax.specs.declared.declaration.Declaration.{Declaration}
@@ -11,26 +11,27 @@ use Rattle.pn_values.specs.declared.sort.Sort.TheViews.{out-Sort, roll-Sort, rol
 use Rattle.pn_values.specs.declared.sort.Sort.TheFolds.{fold-roll-Sort}
 use Rattle.pn_syntax.specs.declared.sort_expr.SortExpr.{SortExpr}
 use Rattle.pn_values.specs.Sizes.{depth_of, depth_step, nodes_of, nodes_step}
-use Rattle.pn_names.specs.Partitions.{IsPartTable, Splits, is_splittable, is_splittable_layer}
+use Rattle.pn_partitions.specs.Partitions.{IsPartTable, Splits, is_splittable, is_splittable_layer}
 use Rattle.pn_resolve.specs.Meaning.{Resolves}
-use Rattle.pn_resolve.specs.Standing.{HasEmptyRange, IsBadPartition, IsBig, at_of_constant, base_of, elements_of, expr_of}
+use Rattle.pn_resolve.specs.Standing.{HasEmptyRange, IsBig, at_of_constant, base_of, elements_of, expr_of}
+use Rattle.pn_sorts.specs.Standing.{IsBadPartition}
 use Rattle.pn_faults.specs.declared.fault.Fault.{Fault}
 use Rattle.pn_faults.specs.Least.{lower}
 use Rattle.pn_faults.specs.Standing.{IsLeastOf}
-use Rattle.pn_faults.proofs.LeastLemmas.{lower-none}
 use Rattle.pn_resolve.proofs.Meanings.{resolves_once}
-use Rattle.pn_resolve.proofs.LeastLemmas.{least_of, least_of_both}
-use Rattle.pn_resolve.specs.Tables.{IsExtent, KeepsLeast}
+use Rattle.pn_faults.proofs.WalkLemmas.{least_of_both, least_alike, keeps_alike}
+use Rattle.pn_faults.specs.Walks.{KeepsLeast}
+use Rattle.pn_resolve.specs.Tables.{IsExtent}
 use Rattle.pn_resolve.specs.declared.extent.Extent.{Extent}
 use Rattle.pn_resolve.specs.declared.extent.Extent.TheVariants.{NoSort, TooBig, Fits}
-use Rattle.pn_sorts.specs.Settling.{AreSettled, IsKnown, IsBadFault, IsBadIn, IsBadlyDivided, IsEntry, IsParting, IsPartingTable, IsTableEntry, ListEmptyRange}
+use Rattle.pn_sorts.specs.Settling.{AreSettled, IsKnown, IsBadFault, IsBadIn, IsBadlyDivided, IsSortEntry, IsParting, IsPartingTable, IsTableEntry, ListEmptyRange}
 use Rattle.pn_faults.specs.Order.{fault_at}
 use Rattle.pn_faults.specs.declared.reason.Reason.TheVariants as reasons
 use Rattle.pn_names.specs.Names.{at_of, constant_ids, element_id, id_of}
 use Rattle.std.specs.List.{AllByRecursion}
 use Rattle.std.proofs.lemmas.List.{length-map, length-append}
 use Rattle.std.proofs.lemmas.Option.{get_or_from_slice_get, slice_get_read, slice_get_within}
-use Rattle.pn_sorts.specs.Keeping.{HasSort, HasTable, IsKept, IsResolved}
+use Rattle.pn_sorts.specs.Keeping.{HasSort, HasTable, PartsKeep, IsResolved}
 use Rattle.pn_faults.specs.declared.fault.Refusal.{Refusal}
 use Rattle.pn_faults.specs.declared.fault.Refusal.TheVariants as refusals
 use Rattle.pn_names.specs.declared.Declared.{Declared}
@@ -38,8 +39,8 @@ use Rattle.pn_names.specs.Names.{AreNumbered, names_of, variable_places_of, widt
 use Rattle.pn_resolve.specs.Tables.{Entries, IsTable}
 use Rattle.pn_names.proofs.DeclaredLemmas.{slice_get_at, slice_get_left}
 use Rattle.pn_syntax.specs.declared.declaration.Declaration.TheVariants as declarations
-use Rattle.pn_resolve.specs.Standing.{IsFaultless, Stands, StandsBesides}
-use Rattle.pn_resolve.specs.Standing.Stands.{besides, bad_partition}
+use Rattle.pn_sorts.specs.Standing.{IsFaultless, Stands}
+use Rattle.pn_sorts.specs.Standing.Stands.{besides, bad_partition}
 use Rattle.pn_resolve.specs.Standing.StandsBesides.{constant_range}
 use Rattle.pn_sorts.specs.declared.settle.Parting.TheVariants as partings
 
@@ -87,24 +88,6 @@ bad_extent items e elements NoSort is some big = absurd (some refl)
 bad_extent items e elements TooBig is some big = (is.0, is.1, λ splits. big_not_split is.0 is.2 splits.splittable)
 bad_extent items e elements (Fits depth nodes) is some big = absurd (is.2 (big is.0 is.1))
 
-pub keeps_nothing : (P : Fault → Type 0) (old : Option Fault) → ((f : Fault) → P f → ⊥) → KeepsLeast P old old
-keeps_nothing P old none = record { own = None; is_least = none; is_lower = sym (lower-none old) }
-
-pub keeps_one : (P : Fault → Type 0) (f : Fault) (old new : Option Fault) → P f → ((g : Fault) → P g → g ≡ f) → new ≡ lower old (Some f) → KeepsLeast P old new
-keeps_one P f old new p only is = record {
-  own = Some f;
-  is_least = least_of P (f ∷ []) (λ g q. subst (Contains (f ∷ [])) (sym (only g q)) (zero, omega arith, refl)) (λ g c. subst P (sym (single g f c)) p) (Some f) refl;
-  is_lower = is;
-}
-
--- the same faults have the same least one
-pub least_alike : (P Q : Fault → Type 0) (o : Option Fault) → ((f : Fault) → P f → Q f) → ((f : Fault) → Q f → P f) → IsLeastOf P o → IsLeastOf Q o
-least_alike P Q None to from least = λ f q. least f (from f q)
-least_alike P Q (Some g) to from least = (to g least.0, λ f q. least.1 f (from f q))
-
-pub keeps_alike : (P Q : Fault → Type 0) (old new : Option Fault) → ((f : Fault) → P f → Q f) → ((f : Fault) → Q f → P f) → KeepsLeast P old new → KeepsLeast Q old new
-keeps_alike P Q old new to from keeps = record { own = keeps.own; is_least = least_alike P Q keeps.own to from keeps.is_least; is_lower = keeps.is_lower }
-
 pub not_bad_unasked : (items : List Declaration) (e : SortExpr) (elements : List PartElement) → IsParting items e elements partings.Unasked → IsBadlyDivided items e elements → ⊥
 not_bad_unasked items e elements (inl empty) bad = bad.0 empty
 not_bad_unasked items e elements (inr none) bad = none bad.1 bad.2
@@ -151,7 +134,7 @@ partition_keeps items d e elements id at old new is keeps =
 
 -- the table that a partition gets
 pub partition_table : (items : List Declaration) (d : Declaration) (e : SortExpr) (elements : List PartElement) (id : List ℕ) (at : ℕ) (base : Option Sort) (o : Option (List ℕ)) → IsPartitionOf d e elements id at
-    → Contains items d → IsEntry items e base → IsPartingTable items e elements o → IsTableEntry items e (elements_of d) o
+    → Contains items d → IsSortEntry items e base → IsPartingTable items e elements o → IsTableEntry items e (elements_of d) o
 partition_table items d e elements id at base (Some table) is there entry parts = subst (λ l. IsTableEntry items e l (Some table)) (sym is.parts) parts
 partition_table items d e elements id at base None is there entry (inl bad) =
     let f = fault_at reasons.BadPartition (at_of d) (id_of d) in (f, bad_partition f d there (to_bad items d e elements id at is bad) refl)
@@ -162,8 +145,8 @@ partition_table items d e elements id at None None is there entry (inr (inr none
 partition_table items d e elements id at (Some s) None is there entry (inr (inr none)) = absurd (none s entry)
 
 -- the sort of an expression, by the expression that the declaration has
-pub entry_of : (items : List Declaration) (d : Declaration) (e x : SortExpr) (o : Option Sort) → expr_of d ≡ Some x → expr_of d ≡ Some e → IsEntry items x o → IsEntry items e o
-entry_of items d e x o is has entry = subst (λ y. IsEntry items y o) (same_some x e (sym is ∙ has)) entry
+pub entry_of : (items : List Declaration) (d : Declaration) (e x : SortExpr) (o : Option Sort) → expr_of d ≡ Some x → expr_of d ≡ Some e → IsSortEntry items x o → IsSortEntry items e o
+entry_of items d e x o is has entry = subst (λ y. IsSortEntry items y o) (same_some x e (sym is ∙ has)) entry
 
 few_parts : (d : Declaration) → length (constant_ids d) < 2 ^ 32 → length (elements_of d) < 2 ^ 32
 few_parts (declarations.Named id name body at) few = omega arith
@@ -199,7 +182,7 @@ either_place (suc k) (suc i) small = elim (either_place k i (omega (arith, small
 -- one more declaration is settled
 pub settled_more : (items : List Declaration) (i : ℕ) (item : Declaration) (sorts new_sorts : List (Option Sort)) (tables new_tables : List (Option (List ℕ))) (s : Option Sort) (t : Option (List ℕ)) → AreSettled items i sorts tables
     → i < length items → item ≡ get_or items i item → new_sorts ≡ sorts ++ s ∷ [] → new_tables ≡ tables ++ t ∷ []
-    → ((e : SortExpr) → expr_of item ≡ Some e → IsEntry items e s) → ((e : SortExpr) → base_of item ≡ Some e → IsTableEntry items e (elements_of item) t) → AreSettled items (i + 1) new_sorts new_tables
+    → ((e : SortExpr) → expr_of item ≡ Some e → IsSortEntry items e s) → ((e : SortExpr) → base_of item ≡ Some e → IsTableEntry items e (elements_of item) t) → AreSettled items (i + 1) new_sorts new_tables
 settled_more items i item sorts new_sorts tables new_tables s t so_far small at more_sorts more_tables own own_table = record {
   sorts_to = one_longer sorts new_sorts s i so_far.sorts_to more_sorts;
   tables_to = one_longer tables new_tables t i so_far.tables_to more_tables;
@@ -233,12 +216,6 @@ least_more items i item old new small at least keeps = subst (IsLeastOf (IsKnown
       | inr here ↦ inr (subst (λ d. IsBadIn items d f) (at_place items i item item before.1 small at (ap (slice_get items) (sym here) ∙ before.3)) before.4)
     ]
 
-pub nothing_settled : (items : List Declaration) → AreSettled items 0 [] []
-nothing_settled items = record { sorts_to = refl; tables_to = refl; each = λ k d e small there has. absurd (omega (arith, small)); split = λ k d e small there has. absurd (omega (arith, small)) }
-
-pub nothing_bad : (items : List Declaration) (o : Option Fault) → IsLeastOf (StandsBesides items) o → IsLeastOf (IsKnown items 0) o
-nothing_bad items o least = least_alike (StandsBesides items) (IsKnown items 0) o (λ f s. inl s) (λ f s. elim s [ inl a ↦ a | inr b ↦ absurd (omega (arith, b.2)) ]) least
-
 -- where the declarations have no fault, what is settled is all that is wanted
 pub all_resolved : (items : List Declaration) (sorts : List (Option Sort)) (tables : List (Option (List ℕ))) → AreSettled items (length items) sorts tables → IsResolved items sorts tables
 all_resolved items sorts tables settled = record {
@@ -247,7 +224,7 @@ all_resolved items sorts tables settled = record {
       let got = settled.split place d e (slice_get_within items place d there) there has in table_of place d e base faultless resolves got.0 got.1 got.2;
 }
   where
-    sort_of : (place : ℕ) (e : SortExpr) → IsFaultless items → (o : Option Sort) → slice_get sorts place ≡ Some o → IsEntry items e o → HasSort items sorts place e
+    sort_of : (place : ℕ) (e : SortExpr) → IsFaultless items → (o : Option Sort) → slice_get sorts place ≡ Some o → IsSortEntry items e o → HasSort items sorts place e
     sort_of place e faultless None at entry = absurd (faultless entry.0 entry.1)
     sort_of place e faultless (Some s) at entry = record { sort = s; stands = at; resolves = entry }
 
@@ -287,9 +264,9 @@ same_error r s e = cc
 -- what the parts keep, from what was settled
 pub all_kept : (items kept : List Declaration) (index : List (List ℕ × Declared)) (table : Entries) (widths variables : List ℕ) (sorts : List (Option Sort)) (tables : List (Option (List ℕ))) (fault : Option Fault) → kept ≡ items
     → AreNumbered items → index ≡ names_of items → widths ≡ widths_of items → variables ≡ variable_places_of items → IsTable items index table → AreSettled items (length items) sorts tables
-    → IsLeastOf (IsKnown items (length items)) fault → IsKept kept index table widths variables sorts tables fault
+    → IsLeastOf (IsKnown items (length items)) fault → PartsKeep kept index table widths variables sorts tables fault
 all_kept items kept index table widths variables sorts tables fault same numbered names counts places entries settled least =
-    subst (λ l. IsKept l index table widths variables sorts tables fault) (sym same) (record {
+    subst (λ l. PartsKeep l index table widths variables sorts tables fault) (sym same) (record {
       indexed = record { numbered = numbered; names = names; counts = counts; places = places };
       entries = entries;
       resolved = all_resolved items sorts tables settled;

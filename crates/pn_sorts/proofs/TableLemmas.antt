@@ -1,27 +1,26 @@
 -- The sorts and tables of declarations that have no fault.
-use Rattle.std.proofs.Common.{◌≡◌, ◌<◌, ◌≤◌, ◌^◌, ℕ, zero, suc, Bool, true, false, List, [], ◌∷◌, length, map, refl, sym, ap, ◌∙◌, subst, Option, Some, None, slice_get, slice_index, IsSome, true≢false, arith}
+use Rattle.std.proofs.Common.{◌≡◌, ◌<◌, ◌≤◌, ◌^◌, ℕ, zero, suc, true, List, [], ◌∷◌, length, refl, sym, ap, ◌∙◌, subst, Option, Some, None, slice_get, slice_index, IsSome, true≢false, arith}
 use Rattle.std.specs.Option.{option_and_then}
 use Rattle.std.proofs.lemmas.Option.{slice_get_within}
-use Rattle.std.specs.List.{AllByRecursion, range_with_len}
+use Rattle.std.specs.List.{AllByRecursion}
 use Rattle.pn_syntax.specs.declared.declaration.Declaration.{Declaration}
 use Rattle.pn_syntax.specs.declared.declaration.Declaration.TheVariants as declarations
-use Rattle.pn_syntax.specs.declared.declaration.PartElement.{PartElement}
 use Rattle.pn_values.specs.declared.sort.Sort.{Sort}
 use Rattle.pn_syntax.specs.declared.sort_expr.SortExpr.{SortExpr}
 use Rattle.pn_values.specs.declared.value.Value.{Value}
 use Rattle.std.proofs.Common.{leb-true}
 use Rattle.pn_values.specs.declared.sort.Sort.TheOpen as layer
-use Rattle.pn_values.specs.declared.sort.Sort.TheViews.{out-Sort, roll-Sort, roll-out-Sort}
-use Rattle.pn_values.specs.declared.sort.Sort.TheFolds.{fold-roll-Sort}
-use Rattle.pn_carriers.specs.Carriers.{carrier, count_between, is_finite, is_finite_layer}
+use Rattle.pn_values.specs.declared.sort.Sort.TheViews.{out-Sort}
+use Rattle.pn_carriers.specs.Carriers.{carrier, count_between, is_finite}
 use Rattle.pn_carriers.proofs.SizeLemmas.{length_constants, length_numbers}
-use Rattle.pn_names.proofs.BaseLemmas.{carrier_out, carrier_enumeration, carrier_range}
-use Rattle.pn_carriers.specs.Members.{IsMember}
+use Rattle.pn_carriers.proofs.LayerLemmas.{carrier-enumeration, carrier-range, finite-enumeration, finite-range}
+use Rattle.pn_partitions.proofs.BaseLemmas.{enumeration_is, range_is}
 use Rattle.pn_names.specs.Names.{AreNumbered, constant_ids, widths_of, variables_of, variable_places_of, variable_at, variable_of, Variable}
-use Rattle.pn_names.specs.Partitions.{is_splittable, is_splittable_layer}
-use Rattle.pn_names.proofs.DeclaredLemmas.{variable_declared, as_many_places}
+use Rattle.pn_partitions.specs.Partitions.{is_splittable, is_splittable_layer}
+use Rattle.pn_names.proofs.DeclaredLemmas.{variable_declared}
 use Rattle.pn_resolve.specs.Meaning.{Resolves}
-use Rattle.pn_resolve.specs.Standing.{IsFaultless, base_of, elements_of, expr_of}
+use Rattle.pn_resolve.specs.Standing.{base_of, elements_of, expr_of}
+use Rattle.pn_sorts.specs.Standing.{IsFaultless}
 use Rattle.pn_sorts.specs.Keeping.{HasSort, HasTable, IsResolved}
 use Rattle.pn_sorts.specs.Lookups.{IsBaseSort, IsPartOf, IsVariableSort, base_expr}
 
@@ -107,20 +106,19 @@ width_fits (d ∷ ds) zero all = all.0
 width_fits (d ∷ ds) (suc place) all = width_fits ds place all.1
 
 -- whether it is finite and how many values it has, by the layer of a sort
-finite_out : (s : Sort) (l : layer.Sort-F Sort) → out-Sort s ≡ l → is_finite s ≡ is_finite (roll-Sort l)
-finite_out s l is = ap is_finite (sym (roll-out-Sort s) ∙ ap roll-Sort is)
-
 small_layer : (items : List Declaration) (s : Sort) (l : layer.Sort-F Sort) → AreNumbered items → out-Sort s ≡ l → is_splittable_layer l ≡ true → (is_finite s ≡ true) × (length (carrier (widths_of items) s) < 2 ^ 64)
 small_layer items s (layer.Enumeration place) numbered is ok =
+    let same = enumeration_is s place is in
     let count : length (carrier (widths_of items) s) ≡ slice_index (widths_of items) place =
-    ap length (carrier_out (widths_of items) s (layer.Enumeration place) is ∙ carrier_enumeration (widths_of items) place) ∙ length_constants (slice_index (widths_of items) place) in
+    ap (λ b. length (carrier (widths_of items) b)) same ∙ ap length (carrier-enumeration (widths_of items) place) ∙ length_constants (slice_index (widths_of items) place) in
     let fits = width_fits items place numbered.constants in
-    (finite_out s (layer.Enumeration place) is ∙ fold-roll-Sort Bool is_finite_layer (layer.Enumeration place), omega arith)
+    (ap is_finite same ∙ finite-enumeration place, omega arith)
 small_layer items s (layer.Range start end) numbered is ok =
+    let same = range_is s start end is in
     let count : length (carrier (widths_of items) s) ≡ count_between start end =
-    ap length (carrier_out (widths_of items) s (layer.Range start end) is ∙ carrier_range (widths_of items) start end) ∙ length_numbers start end in
+    ap (λ b. length (carrier (widths_of items) b)) same ∙ ap length (carrier-range (widths_of items) start end) ∙ length_numbers start end in
     let few : count_between start end ≤ 1048576 = leb-true (count_between start end) 1048576 ok in
-    (finite_out s (layer.Range start end) is ∙ fold-roll-Sort Bool is_finite_layer (layer.Range start end), omega arith)
+    (ap is_finite same ∙ finite-range start end, omega arith)
 small_layer items s layer.Dot numbered is ok = cc
 small_layer items s layer.Bool numbered is ok = cc
 small_layer items s (layer.Partition place) numbered is ok = cc

@@ -8,10 +8,11 @@ use Rattle.pn_values.specs.declared.sort.Sort.{Sort}
 use Rattle.pn_syntax.specs.declared.sort_expr.SortExpr.{SortExpr}
 use Rattle.pn_names.specs.declared.Declared.{Declared}
 use Rattle.pn_names.specs.Names.{AreNumbered, names_of, widths_of, variable_places_of}
-use Rattle.pn_names.specs.Partitions.{IsPartTable, Splits}
+use Rattle.pn_partitions.specs.Partitions.{IsPartTable, Splits}
 use Rattle.pn_resolve.specs.Meaning.{Resolves}
 use Rattle.pn_resolve.specs.Meaning.{HasNoSort}
-use Rattle.pn_resolve.specs.Standing.{IsFaultless, Stands, StandsIn, base_of, elements_of, expr_of}
+use Rattle.pn_resolve.specs.Standing.{StandsInSort, base_of, elements_of, expr_of}
+use Rattle.pn_sorts.specs.Standing.{IsFaultless, Stands}
 use Rattle.pn_resolve.specs.Tables.{Entries, IsTable}
 
 -- the tables of names, of widths and of variables are those of the declarations
@@ -40,7 +41,7 @@ pub record IsResolved (items : List Declaration) (sorts : List (Option Sort)) (t
   pub split : (place : ℕ) (d : Declaration) (e : SortExpr) (base : Sort) → IsFaultless items → slice_get items place ≡ Some d → base_of d ≡ Some e → Resolves items e base → HasTable items tables place d base
 
 -- what the parts keep
-pub record IsKept (items : List Declaration) (index : List (List ℕ × Declared)) (table : Entries) (widths variables : List ℕ) (sorts : List (Option Sort)) (tables : List (Option (List ℕ))) (fault : Option Fault) : Type 0 where
+pub record PartsKeep (items : List Declaration) (index : List (List ℕ × Declared)) (table : Entries) (widths variables : List ℕ) (sorts : List (Option Sort)) (tables : List (Option (List ℕ))) (fault : Option Fault) : Type 0 where
   pub indexed : IsIndexed items index widths variables
   pub entries : IsTable items index table
   pub resolved : IsResolved items sorts tables
@@ -48,4 +49,4 @@ pub record IsKept (items : List Declaration) (index : List (List ℕ × Declared
 
 -- the fault for which an expression is refused: the least one in it; or, where none is in it and it has no sort, the least one of the declarations
 abbrev pub IsRefusedFor : List Declaration → SortExpr → Fault → Type 0
-IsRefusedFor items e f = IsLeastOf (StandsIn items e) (Some f) ⊎ (HasNoSort items e × ((g : Fault) → StandsIn items e g → ⊥) × IsLeastOf (Stands items) (Some f))
+IsRefusedFor items e f = IsLeastOf (StandsInSort items e) (Some f) ⊎ (HasNoSort items e × ((g : Fault) → StandsInSort items e g → ⊥) × IsLeastOf (Stands items) (Some f))

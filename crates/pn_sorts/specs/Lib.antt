@@ -1,3 +1,4 @@
+pub mod Standing
 pub mod Lookups
 pub mod Keeping
 pub mod Settling

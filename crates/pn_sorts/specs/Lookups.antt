@@ -1,11 +1,10 @@
 -- What the declarations tell of variables, constants, enumerations and partitions: ISO/IEC 15909-2, declarations.
-use Rattle.std.specs.Prelude.{◌≡◌, ◌<◌, ℕ, Bool, true, false, List, Option, None, Some}
+use Rattle.std.specs.Prelude.{◌≡◌, ℕ, Bool, true, false, List, Option, None, Some}
 use Rattle.std.specs.List.{slice_get}
 use Rattle.std.specs.Option.{option_and_then}
 use Rattle.pn_syntax.specs.declared.declaration.Declaration.{Declaration}
 use Rattle.pn_syntax.specs.declared.declaration.Declaration.TheVariants as declarations
 use Rattle.pn_syntax.specs.declared.declaration.PartElement.{PartElement}
-use Rattle.pn_syntax.specs.declared.declaration.SortBody.{SortBody}
 use Rattle.pn_syntax.specs.declared.declaration.SortBody.TheVariants as bodies
 use Rattle.pn_values.specs.declared.constant_ref.ConstantRef.{ConstantRef}
 use Rattle.pn_values.specs.declared.sort.Sort.{Sort}
@@ -13,7 +12,7 @@ use Rattle.pn_values.specs.declared.sort.Sort.TheVariants as sorts
 use Rattle.pn_syntax.specs.declared.sort_expr.SortExpr.{SortExpr}
 use Rattle.pn_values.specs.declared.value.Value.{Value}
 use Rattle.pn_names.specs.Names.{Variable, variables_of}
-use Rattle.pn_names.specs.Partitions.{Lists}
+use Rattle.pn_partitions.specs.Partitions.{Lists}
 use Rattle.pn_resolve.specs.Meaning.{Resolves}
 use Rattle.pn_resolve.specs.Standing.{base_of, elements_of}
 

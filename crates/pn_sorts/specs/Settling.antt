@@ -10,9 +10,10 @@ use Rattle.pn_syntax.specs.declared.declaration.PartElement.{PartElement}
 use Rattle.pn_values.specs.declared.sort.Sort.{Sort}
 use Rattle.pn_syntax.specs.declared.sort_expr.SortExpr.{SortExpr}
 use Rattle.pn_names.specs.Names.{at_of, id_of}
-use Rattle.pn_names.specs.Partitions.{IsPartTable, Splits}
+use Rattle.pn_partitions.specs.Partitions.{IsPartTable, Splits}
 use Rattle.pn_resolve.specs.Meaning.{Resolves}
-use Rattle.pn_resolve.specs.Standing.{HasEmptyRange, IsBadPartition, Stands, StandsBesides, base_of, elements_of, expr_of}
+use Rattle.pn_resolve.specs.Standing.{HasEmptyRange, StandsBesides, base_of, elements_of, expr_of}
+use Rattle.pn_sorts.specs.Standing.{IsBadPartition, Stands}
 use Rattle.pn_sorts.specs.declared.settle.Parting.{Parting}
 use Rattle.pn_sorts.specs.declared.settle.Parting.TheVariants as partings
 
@@ -44,9 +45,9 @@ IsPartingTable items e elements None = IsBadlyDivided items e elements ⊎ (List
 IsPartingTable items e elements (Some table) = (base : Sort) × Resolves items e base × Splits items base elements × IsPartTable items base elements table
 
 -- the sort of an expression, or none where some fault stands
-abbrev pub IsEntry : List Declaration → SortExpr → Option Sort → Type 0
-IsEntry items e None = (f : Fault) × Stands items f
-IsEntry items e (Some sort) = Resolves items e sort
+abbrev pub IsSortEntry : List Declaration → SortExpr → Option Sort → Type 0
+IsSortEntry items e None = (f : Fault) × Stands items f
+IsSortEntry items e (Some sort) = Resolves items e sort
 
 -- the table of a partition, or none where some fault stands
 abbrev pub IsTableEntry : List Declaration → SortExpr → List PartElement → Option (List ℕ) → Type 0
@@ -65,5 +66,5 @@ IsKnown items place f = StandsBesides items f ⊎ IsBadBefore items place f
 pub record AreSettled (items : List Declaration) (place : ℕ) (sorts : List (Option Sort)) (tables : List (Option (List ℕ))) : Type 0 where
   pub sorts_to : length sorts ≡ place
   pub tables_to : length tables ≡ place
-  pub each : (k : ℕ) (d : Declaration) (e : SortExpr) → k < place → slice_get items k ≡ Some d → expr_of d ≡ Some e → (o : Option Sort) × (slice_get sorts k ≡ Some o) × IsEntry items e o
+  pub each : (k : ℕ) (d : Declaration) (e : SortExpr) → k < place → slice_get items k ≡ Some d → expr_of d ≡ Some e → (o : Option Sort) × (slice_get sorts k ≡ Some o) × IsSortEntry items e o
   pub split : (k : ℕ) (d : Declaration) (e : SortExpr) → k < place → slice_get items k ≡ Some d → base_of d ≡ Some e → (o : Option (List ℕ)) × (slice_get tables k ≡ Some o) × IsTableEntry items e (elements_of d) o

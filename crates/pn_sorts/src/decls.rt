@@ -39,8 +39,8 @@ impl Model for Decls {
     ghost use Rattle.std.specs.Prelude.{List};
     ghost use Rattle.std.specs.Coded.{codes};
     ghost use Rattle.pn_syntax.specs.declared.declaration.Declaration.{Declaration};
-    ghost use Rattle.pn_values.specs.contracts.declaration.Declaration as declaration;
-    ghost use Rattle.pn_sorts.specs.Keeping.{IsKept};
+    ghost use Rattle.pn_syntax.specs.contracts.declaration.Declaration as declaration;
+    ghost use Rattle.pn_sorts.specs.Keeping.{PartsKeep};
 
     ghost Value = { List Declaration };
 
@@ -48,7 +48,7 @@ impl Model for Decls {
 
     ghost view = { λ d. d.items };
 
-    ghost invariant = { λ d. IsKept d.items d.index d.table d.widths.items d.variables.items d.sorts.items d.tables.items d.fault };
+    ghost invariant = { λ d. PartsKeep d.items d.index d.table d.widths.items d.variables.items d.sorts.items d.tables.items d.fault };
 }
 
 /// Copies of all declarations.
@@ -78,12 +78,14 @@ impl Decls {
     ghost use Rattle.pn_carriers.specs.Carriers.{carrier, is_finite};
     ghost use Rattle.pn_carriers.specs.Members.{is_member, IsMember};
     ghost use Rattle.pn_carriers.specs.Sizes.{capped_size, size_of};
-    ghost use Rattle.pn_names.specs.Names.{AreDistinct, AreNumbered, IsConstant, constant_named, id_of, id_of_constant, names_of, partition_named, variable_name, variable_named, variables_of, widths_of};
+    ghost use Rattle.pn_ids.specs.Names.{AreDistinct};
+    ghost use Rattle.pn_names.specs.Names.{AreNumbered, IsConstant, constant_named, id_of, id_of_constant, names_of, partition_named, variable_name, variable_named, variables_of, widths_of};
     ghost use Rattle.pn_faults.specs.Standing.{IsLeastOf};
     ghost use Rattle.pn_faults.specs.declared.fault.Fault.{Fault};
     ghost use Rattle.pn_faults.specs.declared.fault.Refusal.{Refusal};
     ghost use Rattle.pn_resolve.specs.Meaning.{Resolves};
-    ghost use Rattle.pn_resolve.specs.Standing.{IsFaultless, Stands, StandsIn};
+    ghost use Rattle.pn_resolve.specs.Standing.{StandsInSort};
+    ghost use Rattle.pn_sorts.specs.Standing.{IsFaultless, Stands};
     ghost use Rattle.pn_sorts.specs.Keeping.{IsRefusedFor};
     ghost use Rattle.pn_values.specs.declared.sort.Sort.{Sort};
     ghost use Rattle.pn_sorts.specs.Lookups.{IsBaseSort, IsPartOf, IsVariableSort, base_expr, is_cyclic, sort_of_constant};
@@ -95,13 +97,13 @@ impl Decls {
         requires numbered { AreNumbered items.now }
         ensures { IfOk result (λ d. d ≡ items.now) }
     {
-        let index = Index::of(alloc, items)?;
-        let settled = settle(alloc, &index, items)?;
         let widths = widths(alloc, items)?;
         let variables = variable_places(alloc, items)?;
-        let items = copy_all(alloc, items)?;
+        let copies = copy_all(alloc, items)?;
+        let index = Index::of(alloc, items)?;
+        let settled = settle(alloc, &index, items)?;
         Ok(Decls {
-            items,
+            items: copies,
             index,
             table: settled.table,
             widths,
@@ -119,7 +121,7 @@ impl Decls {
     /// the answer is the fault that `fault` shows.
     pub fn resolve(&self, alloc: Global, expr: &SortExpr) -> Result<Sort, Refusal>
         ensures ok { IfOk result (Resolves self.now expr.now) }
-        ensures clean { IsOk result → (f : Fault) → StandsIn self.now expr.now f → ⊥ }
+        ensures clean { IsOk result → (f : Fault) → StandsInSort self.now expr.now f → ⊥ }
         ensures fault { (f : Fault) → result ≡ Err (Refusal.Fault f) → IsRefusedFor self.now expr.now f }
     {
         match self.table.resolve(alloc, &self.index, expr) {

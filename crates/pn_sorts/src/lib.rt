@@ -19,6 +19,3 @@ pub mod laws {
         faults_are_ordered, least_is_first, least_of_each, least_of_parts, least_of_two,
     };
 }
-
-#[cfg(test)]
-mod tests;

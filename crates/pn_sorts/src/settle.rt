@@ -1,17 +1,19 @@
 //! The sorts of all declarations, the tables of partitions, and the least fault.
 
-ghost use Rattle.std.specs.Prelude.{◌≡◌, ◌↔◌, ◌<◌, ◌^◌, List, Contains, IfOk, IsOk, IsTrue, length, Some};
+ghost use Rattle.std.specs.Prelude.{◌≡◌, ◌↔◌, ◌<◌, ◌^◌, List, Contains, IfOk, IsOk, IsTrue, OnOk, length, Some};
 ghost use Rattle.pn_faults.specs.Standing.{IsLeastOf};
 ghost use Rattle.pn_names.specs.Names.{AreNumbered, names_of};
 ghost use Rattle.pn_resolve.specs.Standing.{HasEmptyRange, base_of, elements_of, expr_of};
-ghost use Rattle.pn_resolve.specs.Tables.{IsTable, KeepsLeast};
-ghost use Rattle.pn_sorts.specs.Settling.{AreSettled, IsBadFault, IsBadIn, IsEntry, IsKnown, IsParting, IsPartingTable, IsTableEntry, ListEmptyRange};
+ghost use Rattle.pn_faults.specs.Walks.{KeepsLeast};
+ghost use Rattle.pn_resolve.specs.Tables.{IsTable};
+ghost use Rattle.pn_sorts.specs.Settling.{AreSettled, IsBadFault, IsBadIn, IsSortEntry, IsKnown, IsParting, IsPartingTable, IsTableEntry, ListEmptyRange};
 ghost use Rattle.pn_syntax.specs.declared.declaration.ConstExpr.{ConstExpr};
 ghost use Rattle.pn_syntax.specs.declared.declaration.Declaration.{Declaration};
 ghost use Rattle.pn_syntax.specs.declared.sort_expr.SortExpr.{SortExpr};
 
 use pn_faults::{Fault, Reason, keep_least_at};
-use pn_names::{Index, part_table};
+use pn_names::Index;
+use pn_partitions::part_table;
 use pn_resolve::{Extent, ResolveFault, Table, least_fault_of};
 use pn_syntax::{ConstExpr, Declaration, PartElement, SortBody, SortExpr};
 use pn_values::Sort;
@@ -95,7 +97,7 @@ fn entry(
     table: &Table,
     expr: &SortExpr,
 ) -> Result<Option<Sort>, AllocError>
-    ensures { IfOk result (λ o. (items : List Declaration) → IsTable items index.now table.now → (d : Declaration) → Contains items d → expr_of d ≡ Some expr.now → IsEntry items expr.now o) }
+    ensures { IfOk result (λ o. (items : List Declaration) → IsTable items index.now table.now → (d : Declaration) → Contains items d → expr_of d ≡ Some expr.now → IsSortEntry items expr.now o) }
 {
     match table.resolve(alloc, index, expr) {
         Ok(sort) => Ok(Some(sort)),
@@ -146,7 +148,7 @@ fn settle_item(
     requires table { IsTable items.now index.now table.now }
     requires few { length (elements_of item.now) < 2 ^ 32 }
     requires there { Contains items.now item.now }
-    ensures sort { IfOk result (λ r. (e : SortExpr) → expr_of item.now ≡ Some e → IsEntry items.now e r.0) }
+    ensures sort { IfOk result (λ r. (e : SortExpr) → expr_of item.now ≡ Some e → IsSortEntry items.now e r.0) }
     ensures table { IfOk result (λ r. (e : SortExpr) → base_of item.now ≡ Some e → IsTableEntry items.now e (elements_of item.now) r.1) }
     ensures least { IsOk result → KeepsLeast (IsBadIn items.now item.now) least.old least.new }
 {
@@ -190,6 +192,31 @@ pub(crate) struct Settled {
     pub(crate) fault: Option<Fault>,
 }
 
+/// Settles one declaration after another.
+fn settle_each(
+    alloc: Global,
+    index: &Index,
+    items: &[Declaration],
+    table: &Table,
+    sorts: &mut Vec<Option<Sort>>,
+    tables: &mut Vec<Option<Items<u32>>>,
+    least: &mut Option<Fault>,
+) -> Result<(), AllocError>
+    requires table { IsTable items.now index.now table.now }
+    requires numbered { AreNumbered items.now }
+    requires settled { AreSettled items.now 0 sorts.old.items tables.old.items }
+    requires least { IsLeastOf (IsKnown items.now 0) least.old }
+    ensures settled { OnOk result (AreSettled items.now (length items.now) sorts.new.items tables.new.items) }
+    ensures least { OnOk result (IsLeastOf (IsKnown items.now (length items.now)) least.new) }
+{
+    for item in items {
+        let (sort, parts) = settle_item(alloc, index, items, table, item, least)?;
+        sorts.push(sort)?;
+        tables.push(parts)?;
+    }
+    Ok(())
+}
+
 /// Settles all declarations.
 pub(crate) fn settle(
     alloc: Global,
@@ -206,11 +233,15 @@ pub(crate) fn settle(
     let mut fault = least_fault_of(alloc, items, index, &table)?;
     let mut sorts = Vec::new(alloc);
     let mut tables = Vec::new(alloc);
-    for item in items {
-        let (sort, parts) = settle_item(alloc, index, items, &table, item, &mut fault)?;
-        sorts.push(sort)?;
-        tables.push(parts)?;
-    }
+    settle_each(
+        alloc,
+        index,
+        items,
+        &table,
+        &mut sorts,
+        &mut tables,
+        &mut fault,
+    )?;
     Ok(Settled {
         table,
         sorts,

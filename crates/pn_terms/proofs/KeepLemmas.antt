@@ -4,8 +4,8 @@ use Rattle.pn_faults.specs.declared.fault.Fault.{Fault}
 use Rattle.pn_faults.specs.Least.{lower}
 use Rattle.pn_faults.specs.Standing.{IsLeastOf}
 use Rattle.pn_faults.proofs.LeastLemmas.{lower-assoc}
-use Rattle.pn_resolve.specs.Tables.{KeepsLeast}
-use Rattle.pn_resolve.proofs.LeastLemmas.{least_of_both}
+use Rattle.pn_faults.specs.Walks.{KeepsLeast}
+use Rattle.pn_faults.proofs.WalkLemmas.{least_of_both}
 
 -- one kind and then another
 pub keeps_both : (P Q : Fault → Type 0) (a b c : Option Fault) → KeepsLeast P a b → KeepsLeast Q b c → KeepsLeast (λ f. P f ⊎ Q f) a c

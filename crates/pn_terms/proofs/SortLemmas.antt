@@ -10,9 +10,10 @@ use Rattle.pn_values.specs.declared.sort.Sort.TheVariants as sorts
 use Rattle.pn_syntax.specs.declared.sort_expr.SortExpr.{SortExpr}
 use Rattle.pn_values.specs.Kin.{kin_of}
 use Rattle.pn_resolve.specs.Meaning.{Resolves}
-use Rattle.pn_resolve.proofs.Lists.{contains_nil, contains_cases}
+use Rattle.pn_facts.proofs.Contained.{contains_nil, contains_cases}
 use Rattle.pn_resolve.proofs.Meanings.{resolves_once}
-use Rattle.pn_resolve.specs.Standing.{IsFaultless, StandsIn as SortFault}
+use Rattle.pn_resolve.specs.Standing.{StandsInSort as SortFault}
+use Rattle.pn_sorts.specs.Standing.{IsFaultless}
 use Rattle.pn_sorts.specs.Keeping.{IsRefusedFor}
 use Rattle.pn_sorts.specs.Lookups.{IsBaseSort, IsVariableSort, sort_of_constant}
 use Rattle.pn_syntax.specs.declared.term.Term.{Term}

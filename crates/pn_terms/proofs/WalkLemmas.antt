@@ -4,8 +4,9 @@ use Rattle.std.proofs.lemmas.List.{take_all, take_more}
 use Rattle.std.specs.List.{Contains}
 use Rattle.pn_faults.specs.declared.fault.Fault.{Fault}
 use Rattle.pn_syntax.specs.declared.declaration.Declaration.{Declaration}
-use Rattle.pn_resolve.specs.Tables.{KeepsLeast}
-use Rattle.pn_resolve.proofs.Lists.{contains_nil, contains_one, contains_either, contains_left, contains_right, contains_first}
+use Rattle.pn_faults.specs.Walks.{KeepsLeast}
+use Rattle.pn_facts.proofs.Contained.{contains_nil, contains_one, contains_first}
+use Rattle.std.proofs.lemmas.List.Elements.{Contains-append_cases, Contains-append_left, Contains-append_right}
 use Rattle.pn_syntax.specs.declared.term.Term.{Term}
 use Rattle.pn_terms.specs.declared.term_sort.TermSort.{TermSort}
 use Rattle.pn_terms.specs.declared.term_sort.TermSort.TheVariants as terms
@@ -20,7 +21,7 @@ use Rattle.pn_terms.specs.Sorts.{Gives, HasSort, HaveSorts, IsOfAll, IsOfConstan
 use Rattle.pn_terms.specs.Standing.{AreWalked, HasSoundSort, HasSoundSorts, IsBadNumber, IsOutside, IsTold, IsTooLarge, IsUnknownOperator, IsUnknownPartition, IsUnknownVariable, IsWalked, IsWrongElement, IsWrongFor, SortOrFault, SortsOrFault, StandsAlways, StandsWith, StandsAt, StandsIn, StandsInSome}
 use Rattle.pn_terms.specs.Terms.{IsPart, itself, inside, Layer, layer_of, parts_in, parts_of}
 use Rattle.pn_terms.proofs.TermLemmas.{out_variable, out_constant, out_truth, out_number, out_range, out_all, out_empty, out_element, out_apply}
-use Rattle.pn_sorts.proofs.SettleLemmas.{keeps_alike, keeps_nothing, keeps_one}
+use Rattle.pn_faults.proofs.WalkLemmas.{keeps_alike, keeps_nothing, keeps_one}
 use Rattle.pn_terms.proofs.KeepLemmas.{keeps_both}
 use Rattle.pn_terms.proofs.SortLemmas.{sorts_agree, sorted_not_always, sorted_not_with, always_once, with_once, always_not_with, all_sorted_no_fault}
 
@@ -135,11 +136,11 @@ have_next items es ss (more _ _ x rest t others us is_es is_ss parts gives have)
     more (es ++ e ∷ []) (ss ++ s ∷ []) x (rest ++ e ∷ []) t (others ++ s ∷ []) us (ap (λ xs. xs ++ e ∷ []) is_es) (ap (λ xs. xs ++ s ∷ []) is_ss) parts gives (have_next items rest others have e s h)
 
 in_more : (items : List Declaration) (es : List Term) (e : Term) (f : Fault) → StandsInSome items es f ⊎ StandsIn items e f → StandsInSome items (es ++ e ∷ []) f
-in_more items es e f (inl (x, c, h)) = (x, contains_left es (e ∷ []) x c, h)
-in_more items es e f (inr h) = (e, contains_right es (e ∷ []) e (contains_first e []), h)
+in_more items es e f (inl (x, c, h)) = (x, Contains-append_left es (e ∷ []) x c, h)
+in_more items es e f (inr h) = (e, Contains-append_right es (e ∷ []) e (contains_first e []), h)
 
 out_of_more : (items : List Declaration) (es : List Term) (e : Term) (f : Fault) → StandsInSome items (es ++ e ∷ []) f → StandsInSome items es f ⊎ StandsIn items e f
-out_of_more items es e f (x, c, h) = elim (contains_either es (e ∷ []) x c) [
+out_of_more items es e f (x, c, h) = elim (Contains-append_cases es (e ∷ []) x c) [
   | inl a ↦ inl (x, a, h)
   | inr b ↦ inr (subst (λ y. StandsIn items y f) (contains_one e x b) h)
 ]
@@ -202,7 +203,7 @@ alike_first ts i x same so_far t (inr b) = contains_one x t b ∙ same
 pub alike_next : (ts : List TermSort) (i : ℕ) (x : TermSort) → i < length ts → x ≡ get_or ts i x → x ≡ first_of ts → ((t : TermSort) → Contains (take i ts) t → t ≡ first_of ts) → (t : TermSort) → Contains (take (i + 1) ts) t → t ≡ first_of ts
 alike_next ts i x lt is same so_far t c =
     let next : take (i + 1) ts ≡ take i ts ++ x ∷ [] = take_more ts i x lt ∙ ap (λ y. take i ts ++ y ∷ []) (sym is) in
-    alike_first ts i x same so_far t (contains_either (take i ts) (x ∷ []) t (subst (λ xs. Contains xs t) next c))
+    alike_first ts i x same so_far t (Contains-append_cases (take i ts) (x ∷ []) t (subst (λ xs. Contains xs t) next c))
 
 pub alike_all : (ts : List TermSort) (i : ℕ) → length ts ≤ i → ((t : TermSort) → Contains (take i ts) t → t ≡ first_of ts) → AreAlike ts
 alike_all ts i end all s t a b =

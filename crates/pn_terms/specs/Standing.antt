@@ -12,8 +12,8 @@ use Rattle.pn_names.specs.Names.{constant_named, partition_named, variable_named
 use Rattle.pn_operators.specs.declared.op.Op.{Op}
 use Rattle.pn_operators.specs.Operators.{name_of}
 use Rattle.pn_resolve.specs.Meaning.{Resolves}
-use Rattle.pn_resolve.specs.Standing.{StandsIn as SortFault}
-use Rattle.pn_resolve.specs.Tables.{KeepsLeast}
+use Rattle.pn_resolve.specs.Standing.{StandsInSort as SortFault}
+use Rattle.pn_faults.specs.Walks.{KeepsLeast}
 use Rattle.pn_sorts.specs.Lookups.{IsBaseSort}
 use Rattle.pn_syntax.specs.declared.term.NumberSort.{NumberSort}
 use Rattle.pn_syntax.specs.declared.term.Term.{Term}

@@ -4,8 +4,9 @@
 ghost use Rattle.std.specs.Prelude.{◌≡◌, ◌↔◌, ◌⊎◌, ◌∷◌, [], true, IfOk, OnOk, IsSome, IsTrue};
 ghost use Rattle.pn_faults.specs.declared.fault.Fault.{Fault};
 ghost use Rattle.pn_resolve.specs.Meaning.{Resolves};
-ghost use Rattle.pn_resolve.specs.Standing.{IsFaultless, StandsIn};
-ghost use Rattle.pn_resolve.specs.Tables.{KeepsLeast};
+ghost use Rattle.pn_resolve.specs.Standing.{StandsInSort};
+ghost use Rattle.pn_sorts.specs.Standing.{IsFaultless};
+ghost use Rattle.pn_faults.specs.Walks.{KeepsLeast};
 ghost use Rattle.pn_sorts.specs.Lookups.{IsBaseSort, base_expr};
 ghost use Rattle.pn_terms.specs.Sorts.{IsOfAll, IsOfConstant, IsOfElement, IsOfEmpty, IsOfOperator, IsOfVariable, is_good_number, is_in_range, is_small, number_sort};
 ghost use Rattle.pn_terms.specs.Standing.{IsBadNumber, IsOutside, IsTold, IsTooLarge, IsUnknownOperator, IsUnknownPartition, IsUnknownVariable, IsWrongElement, IsWrongFor};
@@ -121,7 +122,7 @@ pub(crate) fn range(
 /// The sort of an expression without a fault.
 fn resolved(alloc: Global, decls: &Decls, expr: &SortExpr) -> Result<Sort, AllocError>
     requires faultless { IsFaultless decls.now }
-    requires sound { (f : Fault) → StandsIn decls.now expr.now f → ⊥ }
+    requires sound { (f : Fault) → StandsInSort decls.now expr.now f → ⊥ }
     ensures { IfOk result (Resolves decls.now expr.now) }
 {
     match decls.resolve(alloc, expr) {
@@ -150,7 +151,7 @@ pub(crate) fn all(
     least: &mut Option<Fault>,
 ) -> Result<Option<TermSort>, AllocError>
     requires faultless { IsFaultless decls.now }
-    requires sound { (f : Fault) → StandsIn decls.now expr.now f → ⊥ }
+    requires sound { (f : Fault) → StandsInSort decls.now expr.now f → ⊥ }
     ensures { IfOk result (λ o. IsTold (IsOfAll decls.now expr.now) (IsTooLarge decls.now expr.now at) o least.old least.new) }
 {
     let sort = resolved(alloc, decls, expr)?;
@@ -164,7 +165,7 @@ pub(crate) fn all(
 /// The empty multiset over a sort is one over its kin.
 pub(crate) fn empty(alloc: Global, decls: &Decls, expr: &SortExpr) -> Result<TermSort, AllocError>
     requires faultless { IsFaultless decls.now }
-    requires sound { (f : Fault) → StandsIn decls.now expr.now f → ⊥ }
+    requires sound { (f : Fault) → StandsInSort decls.now expr.now f → ⊥ }
     ensures { IfOk result (IsOfEmpty decls.now expr.now) }
 {
     let sort = resolved(alloc, decls, expr)?;

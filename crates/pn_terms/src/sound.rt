@@ -3,7 +3,8 @@
 ghost use Rattle.std.specs.Prelude.{◌≡◌, ◌↔◌, IfOk, IsTrue};
 ghost use Rattle.std.specs.List.{Contains};
 ghost use Rattle.pn_faults.specs.declared.fault.Fault.{Fault};
-ghost use Rattle.pn_resolve.specs.Standing.{IsFaultless, StandsIn};
+ghost use Rattle.pn_resolve.specs.Standing.{StandsInSort};
+ghost use Rattle.pn_sorts.specs.Standing.{IsFaultless};
 ghost use Rattle.pn_terms.specs.Standing.{HasSoundSorts};
 ghost use Rattle.pn_syntax.specs.declared.term.Term.{Term};
 
@@ -45,7 +46,7 @@ fn have_sound_sorts(alloc: Global, decls: &Decls, terms: &[Term]) -> Result<bool
 /// Whether no fault stands in the sort of an expression.
 fn is_sound(alloc: Global, decls: &Decls, expr: &SortExpr) -> Result<bool, AllocError>
     requires { IsFaultless decls.now }
-    ensures { IfOk result (λ b. IsTrue b ↔ ((f : Fault) → StandsIn decls.now expr.now f → ⊥)) }
+    ensures { IfOk result (λ b. IsTrue b ↔ ((f : Fault) → StandsInSort decls.now expr.now f → ⊥)) }
 {
     match decls.resolve(alloc, expr) {
         Ok(_) => Ok(true),

@@ -1,7 +1,7 @@
 //! What no clause says: that calls succeed while there is memory, and worked examples of terms.
 
 ghost use Rattle.std.specs.Prelude.{◌≡◌, IfOk};
-ghost use Rattle.pn_resolve.specs.Standing.{IsFaultless};
+ghost use Rattle.pn_sorts.specs.Standing.{IsFaultless};
 
 use crate::{
     NumberSort, Op, Term, TermNode, TermSort, find_op, has_sound_sorts, laws, sort_of, variables,

@@ -5,7 +5,7 @@ ghost use Rattle.std.specs.List.{Contains};
 ghost use Rattle.pn_faults.specs.declared.fault.Fault.{Fault};
 ghost use Rattle.pn_faults.specs.declared.fault.Refusal.{Refusal};
 ghost use Rattle.pn_faults.specs.Standing.{IsLeastOf};
-ghost use Rattle.pn_resolve.specs.Standing.{IsFaultless};
+ghost use Rattle.pn_sorts.specs.Standing.{IsFaultless};
 ghost use Rattle.pn_terms.specs.Sorts.{HasSort};
 ghost use Rattle.pn_terms.specs.Standing.{AreWalked, HasSoundSorts, IsWalked, StandsIn};
 ghost use Rattle.pn_syntax.specs.declared.term.Term.{Term};

@@ -9,7 +9,7 @@ use Rattle.pn_carriers.proofs.LayerLemmas.{carrier-enumeration, carrier-partitio
 use Rattle.pn_carriers.proofs.PlaceLemmas.{map_place}
 use Rattle.pn_carriers.proofs.SizeLemmas.{length_constants, length_numbers}
 use Rattle.pn_carriers.proofs.CarrierLemmas.{constant_place, number_place, member_at}
-use Rattle.pn_carriers.proofs.NthLemmas.{Behind, behind_next, behind_all, digit_within, part_finite, constant_fits, number_fits}
+use Rattle.pn_carriers.proofs.NthLemmas.{BehindParts, behind_next, behind_all, digit_within, part_finite, constant_fits, number_fits}
 use Rattle.pn_carriers.proofs.values.+nth.Goals as goal
 
 pub nth-overflow_cast-result : goal.nth-overflow_cast-result
@@ -99,7 +99,7 @@ nth_choice-loop-left-preserved t c =
     let lt : c.loop-left.left - 1 < length c.args.parts.now = omega arith in
     let next = behind_next c.args.widths.now c.args.parts.now c.args.k c.requires.below (omega arith) c.loop-left.left c.loop-left.rest c.loop-left.values.items c.loop-left.invariant.behind
     (c.loop-left.left - 1) c.index-parts-left.result c.finite_size-count.result (c.loop-left.rest % c.finite_size-count.result) c.in_ok-nth.field-0 (omega arith) lt c.index-parts-left.is c.finite_size-count.ensures refl c.in_ok-nth.ensures.place in
-    record { within = omega arith; behind = subst (Behind _ _ _ _) (sym c.in_ok-push.ensures.items) next }
+    record { within = omega arith; behind = subst (BehindParts _ _ _ _) (sym c.in_ok-push.ensures.items) next }
 
 pub nth_choice-returns : goal.nth_choice-returns
 nth_choice-returns t c =

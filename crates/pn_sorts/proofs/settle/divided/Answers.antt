@@ -1,5 +1,5 @@
-use Rattle.std.proofs.Common.{◌≡◌, ap, sym, ◌∙◌, subst, inr, Ok, refl, IsSome, IfSome, true≢false}
-use Rattle.pn_names.specs.Partitions.{IsPartTable}
+use Rattle.std.proofs.Common.{ap, sym, ◌∙◌, subst, inr, Ok, refl, IsSome, IfSome, true≢false}
+use Rattle.pn_partitions.specs.Partitions.{IsPartTable}
 use Rattle.pn_resolve.specs.Tables.{IsExtent}
 use Rattle.pn_sorts.proofs.SettleLemmas.{bad_extent}
 use Rattle.pn_sorts.proofs.settle.divided.Goals as goal

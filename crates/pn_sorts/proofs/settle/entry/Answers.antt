@@ -1,5 +1,5 @@
-use Rattle.std.proofs.Common.{◌≡◌, Err, ap, ◌∙◌}
-use Rattle.pn_resolve.specs.Standing.Stands.{besides}
+use Rattle.std.proofs.Common.{Err, ap, ◌∙◌}
+use Rattle.pn_sorts.specs.Standing.Stands.{besides}
 use Rattle.pn_resolve.specs.Standing.StandsBesides.{in_sort}
 use Rattle.pn_sorts.proofs.settle.entry.Goals as goal
 

@@ -1,4 +1,4 @@
-use Rattle.std.proofs.Common.{◌≡◌, Contains, true≢false, subst, sym, ◌∙◌}
+use Rattle.std.proofs.Common.{Contains, true≢false, subst, sym, ◌∙◌}
 use Rattle.std.proofs.lemmas.List.{take_all}
 use Rattle.pn_sorts.specs.Settling.{ListEmptyRange}
 use Rattle.pn_sorts.proofs.SettleLemmas.{list_more}

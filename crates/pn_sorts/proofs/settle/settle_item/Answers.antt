@@ -1,4 +1,4 @@
-use Rattle.std.proofs.Common.{◌≡◌, ap, refl, sym, ◌∙◌, subst}
+use Rattle.std.proofs.Common.{ap, refl, sym, ◌∙◌, subst}
 use Rattle.pn_names.specs.Names.{at_of, id_of}
 use Rattle.pn_resolve.specs.Standing.{base_of, elements_of, expr_of}
 use Rattle.pn_sorts.specs.Settling.{IsTableEntry}

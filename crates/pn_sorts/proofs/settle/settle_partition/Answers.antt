@@ -1,8 +1,9 @@
-use Rattle.std.proofs.Common.{◌≡◌, inl, inr, subst, refl}
+use Rattle.std.proofs.Common.{inl, inr, subst, refl}
 use Rattle.pn_faults.specs.Order.{fault_at}
 use Rattle.pn_faults.specs.declared.reason.Reason.TheVariants as reasons
 use Rattle.pn_sorts.specs.Settling.{IsBadFault, IsParting}
-use Rattle.pn_sorts.proofs.SettleLemmas.{keeps_nothing, keeps_one, not_bad_split, not_bad_unasked}
+use Rattle.pn_faults.proofs.WalkLemmas.{keeps_nothing, keeps_one}
+use Rattle.pn_sorts.proofs.SettleLemmas.{not_bad_split, not_bad_unasked}
 use Rattle.pn_sorts.proofs.settle.settle_partition.Goals as goal
 
 pub returns-in-Unasked-clause-table : goal.returns-in-Unasked-clause-table

@@ -1,4 +1,4 @@
-use Rattle.std.proofs.Common.{◌≡◌, Some, sym, ap, ◌∙◌, subst, slice_get}
+use Rattle.std.proofs.Common.{sym, ap, ◌∙◌, subst, slice_get}
 use Rattle.pn_sorts.specs.Keeping.{IsResolved}
 use Rattle.pn_sorts.proofs.TableLemmas.{base_at, is_base_sort, sort_stands}
 use Rattle.pn_sorts.proofs.decls.Decls.base_sort.Goals as goal

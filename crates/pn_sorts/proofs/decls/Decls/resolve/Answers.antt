@@ -1,8 +1,9 @@
-use Rattle.std.proofs.Common.{◌≡◌, Err, Some, ap, inl, inr, sym, subst, ◌∙◌}
+use Rattle.std.proofs.Common.{Err, Some, ap, inl, inr, sym, subst, ◌∙◌}
 use Rattle.pn_faults.specs.Standing.{IsLeastOf}
 use Rattle.pn_resolve.specs.Meaning.{Resolves}
-use Rattle.pn_resolve.specs.Standing.{Stands, StandsIn}
-use Rattle.pn_resolve.specs.Standing.Stands.{besides}
+use Rattle.pn_resolve.specs.Standing.{StandsInSort}
+use Rattle.pn_sorts.specs.Standing.{Stands}
+use Rattle.pn_sorts.specs.Standing.Stands.{besides}
 use Rattle.pn_sorts.specs.Keeping.{IsRefusedFor}
 use Rattle.pn_sorts.proofs.SettleLemmas.{same_error, same_refusal}
 use Rattle.pn_faults.specs.declared.fault.Refusal.TheVariants as refusals
@@ -18,12 +19,12 @@ returns-in-Ok-clause-ok c = subst (λ items. Resolves items c.args.expr.now c.in
 
 pub returns-in-Ok-clause-clean : goal.returns-in-Ok-clause-clean
 returns-in-Ok-clause-clean c _ f stands =
-    (c.resolve.ensures.ok c.in-Ok.sort c.in-Ok.is c.self.inside.items c.self.invariant.entries).1 f (subst (λ items. StandsIn items c.args.expr.now f) (sym c.self.view_is) stands)
+    (c.resolve.ensures.ok c.in-Ok.sort c.in-Ok.is c.self.inside.items c.self.invariant.entries).1 f (subst (λ items. StandsInSort items c.args.expr.now f) (sym c.self.view_is) stands)
 
 pub returns-in-Err-Fault-clause-fault : goal.returns-in-Err-Fault-clause-fault
 returns-in-Err-Fault-clause-fault c f is =
     let least = c.resolve.ensures.fault c.in-Err-Fault.fault (c.in-Err-Fault.is ∙ ap Err c.in-Err-Fault.field-0-is) c.self.inside.items c.self.invariant.entries in
-    subst (λ items. IsRefusedFor items c.args.expr.now f) c.self.view_is (inl (subst (λ g. IsLeastOf (StandsIn c.self.inside.items c.args.expr.now) (Some g)) (same_refusal c.in-Err-Fault.fault f is) least))
+    subst (λ items. IsRefusedFor items c.args.expr.now f) c.self.view_is (inl (subst (λ g. IsLeastOf (StandsInSort c.self.inside.items c.args.expr.now) (Some g)) (same_refusal c.in-Err-Fault.fault f is) least))
 
 pub returns-in-Some-clause-fault : goal.returns-in-Some-clause-fault
 returns-in-Some-clause-fault c f is =

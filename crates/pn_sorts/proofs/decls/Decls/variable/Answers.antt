@@ -1,6 +1,7 @@
-use Rattle.std.proofs.Common.{◌≡◌, ap, ◌∙◌}
+use Rattle.std.proofs.Common.{ap, ◌∙◌}
 use Rattle.std.specs.Option.{option_and_then}
-use Rattle.pn_names.specs.Names.{named_in, names_of, variable_number}
+use Rattle.pn_ids.specs.Names.{named_in}
+use Rattle.pn_names.specs.Names.{names_of, variable_number}
 use Rattle.pn_sorts.proofs.NameLemmas.{variable_is}
 use Rattle.pn_sorts.proofs.decls.Decls.variable.Goals as goal
 

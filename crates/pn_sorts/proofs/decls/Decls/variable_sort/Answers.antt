@@ -1,5 +1,5 @@
-use Rattle.std.proofs.Common.{◌≡◌, ◌<◌, length, Some, sym, ap, ◌∙◌, subst, slice_get}
-use Rattle.pn_names.specs.Names.{variable_places_of, variables_of}
+use Rattle.std.proofs.Common.{◌<◌, length, sym, ap, ◌∙◌, subst, slice_get}
+use Rattle.pn_names.specs.Names.{variable_places_of}
 use Rattle.pn_names.proofs.DeclaredLemmas.{as_many_places}
 use Rattle.pn_sorts.specs.Keeping.{IsResolved}
 use Rattle.pn_sorts.proofs.TableLemmas.{variable_with, is_variable_sort, variable_sort_stands}

@@ -1,5 +1,0 @@
-use Rattle.std.proofs.Common.{sym}
-use Rattle.pn_carriers.proofs.tests.ordinal_of_nth.Goals as goal
-
-pub returns : goal.returns
-returns c = sym (c.ordinal.ensures.only c.args.k c.in_ok-value.ensures.place)

@@ -1,7 +1,0 @@
-use Rattle.std.proofs.Common.{ap, ◌∙◌}
-use Rattle.pn_names.specs.Names.{named_in}
-use Rattle.pn_names.proofs.IndexLemmas.{named_of_entries}
-use Rattle.pn_names.proofs.names.Index.find.Goals as goal
-
-pub returns : goal.returns
-returns c = c.entry_at.ensures ∙ named_of_entries c.self.inside.index.entries c.args.id.now ∙ ap (λ names. named_in names c.args.id.now) c.self.view_is

@@ -1,6 +1,0 @@
-use Rattle.std.proofs.Common.{◌≡◌, ◌-◌, sum, map, take}
-use Rattle.pn_names.specs.Tables.{values_listed}
-use Rattle.pn_names.proofs.partitions.list_enough.Given as goal
-
-abbrev pub invariant-loop-element : goal.invariant-loop-element
-invariant-loop-element l = l.left ≡ l.size - sum (map values_listed (take l.element-index l.elements))
