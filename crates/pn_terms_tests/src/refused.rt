@@ -210,19 +210,31 @@ fn are_wrong(rt: &impl Abort, alloc: Global, decls: &Decls, table: &[Wrong])
     }
 }
 
-#[test]
-fn wrong_sorts(rt: HostRuntime) -> Result<(), Fail> {
-    let decls = declared(&rt, rt.alloc())?;
-    are_wrong(&rt, rt.alloc(), &decls, &WRONG_TRUTHS);
-    are_wrong(&rt, rt.alloc(), &decls, &WRONG_ORDERS);
-    are_wrong(&rt, rt.alloc(), &decls, &WRONG_MULTISETS);
-    Ok(())
+fn wrong_sorts(rt: &impl Abort, alloc: Global, decls: &Decls)
+    requires { IsFaultless decls.now }
+{
+    are_wrong(rt, alloc, decls, &WRONG_TRUTHS);
+    are_wrong(rt, alloc, decls, &WRONG_ORDERS);
+    are_wrong(rt, alloc, decls, &WRONG_MULTISETS);
+}
+
+fn each_reason_and_the_least(rt: &impl Abort, alloc: Global, decls: &Decls)
+    requires { IsFaultless decls.now }
+{
+    are_refused(rt, alloc, decls, &REASONS);
+    are_refused(rt, alloc, decls, &SEVERAL);
+}
+
+fn each_fault(rt: &impl Abort, alloc: Global, decls: &Decls)
+    requires { IsFaultless decls.now }
+{
+    wrong_sorts(rt, alloc, decls);
+    each_reason_and_the_least(rt, alloc, decls);
 }
 
 #[test]
-fn each_reason_and_the_least_of_several(rt: HostRuntime) -> Result<(), Fail> {
+fn faults_of_terms(rt: HostRuntime) -> Result<(), Fail> {
     let decls = declared(&rt, rt.alloc())?;
-    are_refused(&rt, rt.alloc(), &decls, &REASONS);
-    are_refused(&rt, rt.alloc(), &decls, &SEVERAL);
+    each_fault(&rt, rt.alloc(), &decls);
     Ok(())
 }

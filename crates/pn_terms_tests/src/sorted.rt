@@ -90,38 +90,18 @@ fn are_of(rt: &impl Abort, alloc: Global, decls: &Decls, table: &[&[Token]], sor
     }
 }
 
-#[test]
-fn basis_sorts(rt: HostRuntime) -> Result<(), Fail> {
-    let decls = declared(&rt, rt.alloc())?;
-    are_of(
-        &rt,
-        rt.alloc(),
-        &decls,
-        &TRUTHS,
-        &TermSort::Basis(Sort::Bool),
-    );
-    are_of(
-        &rt,
-        rt.alloc(),
-        &decls,
-        &ENUMERATED,
-        &TermSort::Basis(Sort::Enumeration(0)),
-    );
-    are_of(
-        &rt,
-        rt.alloc(),
-        &decls,
-        &INTEGERS,
-        &TermSort::Basis(Sort::Integer),
-    );
-    are_of(
-        &rt,
-        rt.alloc(),
-        &decls,
-        &PARTS,
-        &TermSort::Basis(Sort::Partition(2)),
-    );
-    Ok(())
+/// Each of the terms has this basis sort.
+fn are_basis(rt: &impl Abort, alloc: Global, decls: &Decls, table: &[&[Token]], sort: Sort)
+    requires { IsFaultless decls.now }
+{
+    are_of(rt, alloc, decls, table, &TermSort::Basis(sort))
+}
+
+/// Each of the terms is a multiset over this sort.
+fn are_bags(rt: &impl Abort, alloc: Global, decls: &Decls, table: &[&[Token]], sort: Sort)
+    requires { IsFaultless decls.now }
+{
+    are_of(rt, alloc, decls, table, &TermSort::Bag(sort))
 }
 
 /// The parts of the product.
@@ -157,32 +137,36 @@ fn range(end: i64) -> Sort {
     Sort::Range { start: 1, end }
 }
 
-#[test]
-fn single_sorts(rt: HostRuntime) -> Result<(), Fail> {
-    let decls = declared(&rt, rt.alloc())?;
-    are_of(&rt, rt.alloc(), &decls, &DOTS, &TermSort::Basis(Sort::Dot));
-    are_of(&rt, rt.alloc(), &decls, &RANGES, &TermSort::Basis(range(5)));
-    are_of(
-        &rt,
-        rt.alloc(),
-        &decls,
-        &MOST,
-        &TermSort::Bag(range(1048576)),
-    );
-    pairs(&rt, rt.alloc(), &decls)?;
-    Ok(())
+fn basis_sorts(rt: &impl Abort, alloc: Global, decls: &Decls)
+    requires { IsFaultless decls.now }
+{
+    are_basis(rt, alloc, decls, &TRUTHS, Sort::Bool);
+    are_basis(rt, alloc, decls, &ENUMERATED, Sort::Enumeration(0));
+    are_basis(rt, alloc, decls, &INTEGERS, Sort::Integer);
+    are_basis(rt, alloc, decls, &PARTS, Sort::Partition(2));
+}
+
+fn single_sorts(rt: &impl Abort, alloc: Global, decls: &Decls)
+    requires { IsFaultless decls.now }
+{
+    are_basis(rt, alloc, decls, &DOTS, Sort::Dot);
+    are_basis(rt, alloc, decls, &RANGES, range(5));
+    are_bags(rt, alloc, decls, &MOST, range(1048576));
+    are_bags(rt, alloc, decls, &BAGS, Sort::Enumeration(0));
+}
+
+fn each_sort(rt: &impl Abort, alloc: Global, decls: &Decls) -> Result<(), AllocError>
+    requires { IsFaultless decls.now }
+{
+    basis_sorts(rt, alloc, decls);
+    single_sorts(rt, alloc, decls);
+    pairs(rt, alloc, decls)
 }
 
 #[test]
-fn multisets(rt: HostRuntime) -> Result<(), Fail> {
+fn sorts_of_terms(rt: HostRuntime) -> Result<(), Fail> {
     let decls = declared(&rt, rt.alloc())?;
-    are_of(
-        &rt,
-        rt.alloc(),
-        &decls,
-        &BAGS,
-        &TermSort::Bag(Sort::Enumeration(0)),
-    );
+    each_sort(&rt, rt.alloc(), &decls)?;
     Ok(())
 }
 
