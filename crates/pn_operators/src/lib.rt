@@ -1,5 +1,5 @@
-//! The kinds of nets, the operators of terms, and the one table of their names and of the numbers of their arguments
-//! (ISO/IEC 15909-2, terms of symmetric nets).
+//! The kinds of nets, the operators of terms, and the one table of their names and of the numbers
+//! of their arguments (ISO/IEC 15909-2, terms of symmetric nets).
 #![tactic(auto)]
 
 mod kind;
@@ -9,8 +9,6 @@ mod row;
 mod rows;
 mod search;
 mod table;
-#[cfg(test)]
-mod tests;
 
 pub use kind::Kind;
 pub use op::Op;

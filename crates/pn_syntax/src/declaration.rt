@@ -1,4 +1,5 @@
 ghost use Rattle.std.specs.Prelude.{◌≡◌, IfOk};
+ghost use Rattle.pn_syntax.specs.declared.declaration.Declaration.{Declaration};
 
 use crate::SortExpr;
 use pn_text::Text;
@@ -78,33 +79,72 @@ impl Declaration {
         ensures { IfOk result (λ declaration. declaration ≡ self.now) }
     {
         match self {
-            Declaration::Named { id, name, body, at } => Ok(Declaration::Named {
-                id: id.copy(alloc)?,
-                name: copy_name(alloc, name)?,
-                body: body.copy(alloc)?,
-                at: *at,
-            }),
-            Declaration::Variable { id, name, sort, at } => Ok(Declaration::Variable {
-                id: id.copy(alloc)?,
-                name: copy_name(alloc, name)?,
-                sort: sort.copy(alloc)?,
-                at: *at,
-            }),
+            Declaration::Named { id, name, body, at } => copy_named(alloc, id, name, body, *at),
+            Declaration::Variable { id, name, sort, at } => {
+                copy_variable(alloc, id, name, sort, *at)
+            }
             Declaration::Partition {
                 id,
                 name,
                 sort,
                 elements,
                 at,
-            } => Ok(Declaration::Partition {
-                id: id.copy(alloc)?,
-                name: copy_name(alloc, name)?,
-                sort: sort.copy(alloc)?,
-                elements: copy_elements(alloc, elements.as_slice())?,
-                at: *at,
-            }),
+            } => copy_partition(alloc, id, name, sort, elements.as_slice(), *at),
         }
     }
+}
+
+fn copy_named(
+    alloc: Global,
+    id: &Text,
+    name: &Option<Text>,
+    body: &SortBody,
+    at: u64,
+) -> Result<Declaration, AllocError>
+    ensures { IfOk result (λ d. d ≡ Declaration.Named id.now name.now body.now at) }
+{
+    Ok(Declaration::Named {
+        id: id.copy(alloc)?,
+        name: copy_name(alloc, name)?,
+        body: body.copy(alloc)?,
+        at,
+    })
+}
+
+fn copy_variable(
+    alloc: Global,
+    id: &Text,
+    name: &Option<Text>,
+    sort: &SortExpr,
+    at: u64,
+) -> Result<Declaration, AllocError>
+    ensures { IfOk result (λ d. d ≡ Declaration.Variable id.now name.now sort.now at) }
+{
+    Ok(Declaration::Variable {
+        id: id.copy(alloc)?,
+        name: copy_name(alloc, name)?,
+        sort: sort.copy(alloc)?,
+        at,
+    })
+}
+
+fn copy_partition(
+    alloc: Global,
+    id: &Text,
+    name: &Option<Text>,
+    sort: &SortExpr,
+    elements: &[PartElement],
+    at: u64,
+) -> Result<Declaration, AllocError>
+    ensures { IfOk result (λ d. d ≡ Declaration.Partition id.now name.now sort.now elements.now at) }
+{
+    Ok(Declaration::Partition {
+        id: id.copy(alloc)?,
+        name: copy_name(alloc, name)?,
+        sort: sort.copy(alloc)?,
+        elements: copy_elements(alloc, elements)?,
+        at,
+    })
 }
 
 impl SortBody {

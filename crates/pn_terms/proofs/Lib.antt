@@ -1,4 +1,3 @@
-pub mod KeepLemmas
 pub mod SortLemmas
 pub mod TermLemmas
 pub mod VariableLemmas

@@ -4,6 +4,7 @@ use Rattle.std.specs.List.{Contains}
 use Rattle.pn_faults.specs.declared.fault.Fault.{Fault}
 use Rattle.pn_faults.specs.declared.fault.Refusal.{Refusal}
 use Rattle.pn_faults.specs.declared.fault.Refusal.TheVariants as refusals
+use Rattle.pn_faults.specs.Walks.{StandsInSome}
 use Rattle.pn_syntax.specs.declared.declaration.Declaration.{Declaration}
 use Rattle.pn_values.specs.declared.sort.Sort.{Sort}
 use Rattle.pn_values.specs.declared.sort.Sort.TheVariants as sorts
@@ -21,7 +22,7 @@ use Rattle.pn_terms.specs.declared.term_sort.TermSort.{TermSort}
 use Rattle.pn_terms.specs.declared.term_sort.TermSort.TheVariants as terms
 use Rattle.pn_syntax.specs.declared.term.TermNode.TheOpen as layer
 use Rattle.pn_terms.specs.Sorts.{Gives, HasSort, HaveSorts, none, more, is_small}
-use Rattle.pn_terms.specs.Standing.{StandsAlways, StandsWith, StandsAt, StandsIn, StandsInSome}
+use Rattle.pn_terms.specs.Standing.{StandsAlways, StandsWith, StandsAt, StandsIn}
 use Rattle.pn_terms.specs.Terms.{IsPart, itself, inside, Layer, layer_of, parts_of}
 
 same_some : {A : Type 0} (a b : A) (o : Option A) → o ≡ Some a → o ≡ Some b → a ≡ b
@@ -205,5 +206,5 @@ at_none items e s f (ss, have, gives) (inr (ts, have', stands)) =
 pub sorted_no_fault : (items : List Declaration) (e : Term) (s : TermSort) (f : Fault) → HasSort items e s → StandsIn items e f → ⊥
 sorted_no_fault items e s f h (x, part, stands) = let has = part_has items e x part s h in at_none items x has.0 f has.1 stands
 
-pub all_sorted_no_fault : (items : List Declaration) (es : List Term) (ss : List TermSort) (f : Fault) → HaveSorts items es ss → StandsInSome items es f → ⊥
+pub all_sorted_no_fault : (items : List Declaration) (es : List Term) (ss : List TermSort) (f : Fault) → HaveSorts items es ss → StandsInSome (StandsIn items) es f → ⊥
 all_sorted_no_fault items es ss f h (e, c, stands) = let has = have_each items es ss h e c in sorted_no_fault items e has.0 f has.1 stands

@@ -156,6 +156,6 @@ given_by op.Subtract ts = first_of ts
 given_by op.ScalarProduct ts = last_of ts
 
 -- where the arguments fit it is this sort that is given, else there is none
-abbrev pub IsGiven : Type 0 → TermSort → Option TermSort → Type 0
-IsGiven Fit given None = Fit → ⊥
-IsGiven Fit given (Some s) = Fit × (s ≡ given)
+abbrev pub IsGivenWhere : Type 0 → TermSort → Option TermSort → Type 0
+IsGivenWhere Fit given None = Fit → ⊥
+IsGivenWhere Fit given (Some s) = Fit × (s ≡ given)

@@ -1,8 +1,6 @@
 -- Which faults of typing stand in a term (ISO/IEC 15909-2, terms, in this project's profile).
-use Rattle.std.specs.Prelude.{◌≡◌, ◌⊎◌, ℕ, ℤ, List, [], ◌∷◌, codes, false, Option, None, Some}
-use Rattle.std.specs.List.{Contains}
+use Rattle.std.specs.Prelude.{◌≡◌, ◌⊎◌, ℕ, ℤ, List, [], ◌∷◌, codes, false, None, Some}
 use Rattle.pn_faults.specs.declared.fault.Fault.{Fault}
-use Rattle.pn_faults.specs.Least.{lower}
 use Rattle.pn_faults.specs.Order.{fault_at}
 use Rattle.pn_faults.specs.declared.reason.Reason.TheVariants as reasons
 use Rattle.pn_syntax.specs.declared.declaration.Declaration.{Declaration}
@@ -13,7 +11,6 @@ use Rattle.pn_operators.specs.declared.op.Op.{Op}
 use Rattle.pn_operators.specs.Operators.{name_of}
 use Rattle.pn_resolve.specs.Meaning.{Resolves}
 use Rattle.pn_resolve.specs.Standing.{StandsInSort as SortFault}
-use Rattle.pn_faults.specs.Walks.{KeepsLeast}
 use Rattle.pn_sorts.specs.Lookups.{IsBaseSort}
 use Rattle.pn_syntax.specs.declared.term.NumberSort.{NumberSort}
 use Rattle.pn_syntax.specs.declared.term.Term.{Term}
@@ -21,7 +18,7 @@ use Rattle.pn_terms.specs.declared.term_sort.TermSort.{TermSort}
 use Rattle.pn_terms.specs.declared.term_sort.TermSort.TheVariants as terms
 use Rattle.pn_syntax.specs.declared.term.TermNode.TheOpen as layer
 use Rattle.pn_terms.specs.Rows.{Fits}
-use Rattle.pn_terms.specs.Sorts.{HasSort, HaveSorts, is_good_number, is_in_range, is_small}
+use Rattle.pn_terms.specs.Sorts.{HaveSorts, is_good_number, is_in_range, is_small}
 use Rattle.pn_terms.specs.Terms.{IsPart, Layer, layer_of, parts_of}
 
 -- no variable has this name
@@ -88,10 +85,6 @@ StandsAt items e f = StandsAlways items (layer_of e) e.at f ⊎ ((ts : List Term
 abbrev pub StandsIn : List Declaration → Term → Fault → Type 0
 StandsIn items e f = (x : Term) × IsPart e x × StandsAt items x f
 
--- one of the terms or a term in one has this fault
-abbrev pub StandsInSome : List Declaration → List Term → Fault → Type 0
-StandsInSome items es f = (e : Term) × Contains es e × StandsIn items e f
-
 -- no fault stands in the sort that a layer writes
 abbrev pub HasSoundSort : List Declaration → Layer → Type 0
 HasSoundSort items (layer.Variable name) = Unit {0}
@@ -107,28 +100,3 @@ HasSoundSort items (layer.Apply op args) = Unit {0}
 -- no fault stands in the sorts that a term writes
 abbrev pub HasSoundSorts : List Declaration → Term → Type 0
 HasSoundSorts items e = (x : Term) → IsPart e x → HasSoundSort items (layer_of x)
-
--- the sort of something, and no fault; or no sort, and this one fault more
-abbrev pub IsTold : (TermSort → Type 0) → (Fault → Type 0) → Option TermSort → Option Fault → Option Fault → Type 0
-IsTold Sorted Stands (Some s) old new = Sorted s × (new ≡ old)
-IsTold Sorted Stands None old new = (f : Fault) × Stands f × (new ≡ lower old (Some f))
-
--- the sort of a term, or some fault in it
-abbrev pub SortOrFault : List Declaration → Term → Option TermSort → Type 0
-SortOrFault items e (Some s) = HasSort items e s
-SortOrFault items e None = (f : Fault) × StandsIn items e f
-
--- the sorts of the terms, or some fault in one
-abbrev pub SortsOrFault : List Declaration → List Term → Option (List TermSort) → Type 0
-SortsOrFault items es (Some ts) = HaveSorts items es ts
-SortsOrFault items es None = (f : Fault) × StandsInSome items es f
-
--- what a walk over a term tells: its sort or none, and the least of its faults and of the one so far
-pub record IsWalked (items : List Declaration) (e : Term) (sort : Option TermSort) (old new : Option Fault) : Type 0 where
-  pub sorted : SortOrFault items e sort
-  pub least : KeepsLeast (StandsIn items e) old new
-
--- what a walk over terms tells
-pub record AreWalked (items : List Declaration) (es : List Term) (sorts : Option (List TermSort)) (old new : Option Fault) : Type 0 where
-  pub sorted : SortsOrFault items es sorts
-  pub least : KeepsLeast (StandsInSome items es) old new

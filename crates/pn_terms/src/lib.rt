@@ -7,8 +7,6 @@ mod nodes;
 mod rules;
 mod sound;
 mod term_sort;
-#[cfg(test)]
-mod tests;
 mod typing;
 mod variable_list;
 

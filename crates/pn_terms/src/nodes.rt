@@ -3,13 +3,13 @@
 
 ghost use Rattle.std.specs.Prelude.{◌≡◌, ◌↔◌, ◌⊎◌, ◌∷◌, [], true, IfOk, OnOk, IsSome, IsTrue};
 ghost use Rattle.pn_faults.specs.declared.fault.Fault.{Fault};
+ghost use Rattle.pn_faults.specs.Walks.{IsTold, KeepsLeast};
 ghost use Rattle.pn_resolve.specs.Meaning.{Resolves};
 ghost use Rattle.pn_resolve.specs.Standing.{StandsInSort};
 ghost use Rattle.pn_sorts.specs.Standing.{IsFaultless};
-ghost use Rattle.pn_faults.specs.Walks.{KeepsLeast};
 ghost use Rattle.pn_sorts.specs.Lookups.{IsBaseSort, base_expr};
 ghost use Rattle.pn_terms.specs.Sorts.{IsOfAll, IsOfConstant, IsOfElement, IsOfEmpty, IsOfOperator, IsOfVariable, is_good_number, is_in_range, is_small, number_sort};
-ghost use Rattle.pn_terms.specs.Standing.{IsBadNumber, IsOutside, IsTold, IsTooLarge, IsUnknownOperator, IsUnknownPartition, IsUnknownVariable, IsWrongElement, IsWrongFor};
+ghost use Rattle.pn_terms.specs.Standing.{IsBadNumber, IsOutside, IsTooLarge, IsUnknownOperator, IsUnknownPartition, IsUnknownVariable, IsWrongElement, IsWrongFor};
 ghost use Rattle.pn_terms.specs.declared.term_sort.TermSort.{TermSort};
 ghost use Rattle.pn_values.specs.declared.sort.Sort.{Sort};
 

@@ -3,7 +3,7 @@
 
 ghost use Rattle.std.specs.Prelude.{◌≡◌, ◌<◌, ◌-◌, true, length, map, IfOk};
 ghost use Rattle.pn_operators.specs.declared.op.Op.{Op};
-ghost use Rattle.pn_terms.specs.Rows.{AreAlike, AreIn, Fits, IsGiven, Suit, basis_of, first_of, given_by, is_counted, is_scaled, last_of, takes};
+ghost use Rattle.pn_terms.specs.Rows.{AreAlike, AreIn, Fits, IsGivenWhere, Suit, basis_of, first_of, given_by, is_counted, is_scaled, last_of, takes};
 ghost use Rattle.pn_terms.specs.declared.family.Family.{Family};
 ghost use Rattle.pn_terms.specs.declared.term_sort.TermSort.{TermSort};
 ghost use Rattle.pn_values.specs.declared.sort.Sort.{Sort};
@@ -28,7 +28,7 @@ pub(crate) fn row_sort(
     op: Op,
     sorts: &[TermSort],
 ) -> Result<Option<TermSort>, AllocError>
-    ensures { IfOk result (IsGiven (Fits decls.now op sorts.now) (given_by op sorts.now)) }
+    ensures { IfOk result (IsGivenWhere (Fits decls.now op sorts.now) (given_by op sorts.now)) }
 {
     if !takes(op, sorts.len()) {
         return Ok(None);
@@ -56,21 +56,21 @@ fn suited(
     sorts: &[TermSort],
 ) -> Result<Option<TermSort>, AllocError>
     requires { takes op (length sorts.now) ≡ true }
-    ensures { IfOk result (IsGiven (Suit decls.now op sorts.now) (given_by op sorts.now)) }
+    ensures { IfOk result (IsGivenWhere (Suit decls.now op sorts.now) (given_by op sorts.now)) }
 {
     with_rows!(by_rule, op, alloc, decls, sorts)
 }
 
 /// No argument gives Dot.
 fn dot(_alloc: Global, _decls: &Decls, _sorts: &[TermSort]) -> Result<Option<TermSort>, AllocError>
-    ensures { IfOk result (IsGiven (Unit {0}) (TermSort.Basis Sort.Dot)) }
+    ensures { IfOk result (IsGivenWhere (Unit {0}) (TermSort.Basis Sort.Dot)) }
 {
     Ok(Some(TermSort::Basis(Sort::Dot)))
 }
 
 /// Truth values give a truth value.
 fn truths(_alloc: Global, decls: &Decls, sorts: &[TermSort]) -> Result<Option<TermSort>, AllocError>
-    ensures { IfOk result (IsGiven (AreIn decls.now Family.Truths sorts.now) (TermSort.Basis Sort.Bool)) }
+    ensures { IfOk result (IsGivenWhere (AreIn decls.now Family.Truths sorts.now) (TermSort.Basis Sort.Bool)) }
 {
     if !are_in(decls, Family::Truths, sorts) {
         return Ok(None);
@@ -80,7 +80,7 @@ fn truths(_alloc: Global, decls: &Decls, sorts: &[TermSort]) -> Result<Option<Te
 
 /// What is of one sort is compared.
 fn alike(_alloc: Global, _decls: &Decls, sorts: &[TermSort]) -> Result<Option<TermSort>, AllocError>
-    ensures { IfOk result (IsGiven (AreAlike sorts.now) (TermSort.Basis Sort.Bool)) }
+    ensures { IfOk result (IsGivenWhere (AreAlike sorts.now) (TermSort.Basis Sort.Bool)) }
 {
     if !are_alike(sorts) {
         return Ok(None);
@@ -90,7 +90,7 @@ fn alike(_alloc: Global, _decls: &Decls, sorts: &[TermSort]) -> Result<Option<Te
 
 /// What is of one sort of this family is compared.
 fn compared(decls: &Decls, family: Family, sorts: &[TermSort]) -> Option<TermSort>
-    ensures { IsGiven (AreIn decls.now family sorts.now × AreAlike sorts.now) (TermSort.Basis Sort.Bool) result }
+    ensures { IsGivenWhere (AreIn decls.now family sorts.now × AreAlike sorts.now) (TermSort.Basis Sort.Bool) result }
 {
     if are_in(decls, family, sorts) && are_alike(sorts) {
         return Some(TermSort::Basis(Sort::Bool));
@@ -104,7 +104,7 @@ fn ordered(
     decls: &Decls,
     sorts: &[TermSort],
 ) -> Result<Option<TermSort>, AllocError>
-    ensures { IfOk result (IsGiven (AreIn decls.now Family.Ordered sorts.now × AreAlike sorts.now) (TermSort.Basis Sort.Bool)) }
+    ensures { IfOk result (IsGivenWhere (AreIn decls.now Family.Ordered sorts.now × AreAlike sorts.now) (TermSort.Basis Sort.Bool)) }
 {
     Ok(compared(decls, Family::Ordered, sorts))
 }
@@ -115,7 +115,7 @@ fn elements(
     decls: &Decls,
     sorts: &[TermSort],
 ) -> Result<Option<TermSort>, AllocError>
-    ensures { IfOk result (IsGiven (AreIn decls.now Family.Elements sorts.now × AreAlike sorts.now) (TermSort.Basis Sort.Bool)) }
+    ensures { IfOk result (IsGivenWhere (AreIn decls.now Family.Elements sorts.now × AreAlike sorts.now) (TermSort.Basis Sort.Bool)) }
 {
     Ok(compared(decls, Family::Elements, sorts))
 }
@@ -123,7 +123,7 @@ fn elements(
 /// What is of a cyclic enumeration gives the same sort.
 fn round(alloc: Global, decls: &Decls, sorts: &[TermSort]) -> Result<Option<TermSort>, AllocError>
     requires { 0 < length sorts.now }
-    ensures { IfOk result (IsGiven (AreIn decls.now Family.Rounds sorts.now) (first_of sorts.now)) }
+    ensures { IfOk result (IsGivenWhere (AreIn decls.now Family.Rounds sorts.now) (first_of sorts.now)) }
 {
     if !are_in(decls, Family::Rounds, sorts) {
         return Ok(None);
@@ -154,7 +154,7 @@ fn basis(alloc: Global, sort: &TermSort) -> Result<Sort, AllocError>
 
 /// Basis sorts give their product.
 fn tuple(alloc: Global, decls: &Decls, sorts: &[TermSort]) -> Result<Option<TermSort>, AllocError>
-    ensures { IfOk result (IsGiven (AreIn decls.now Family.Basis sorts.now) (TermSort.Basis (Sort.Product (map basis_of sorts.now)))) }
+    ensures { IfOk result (IsGivenWhere (AreIn decls.now Family.Basis sorts.now) (TermSort.Basis (Sort.Product (map basis_of sorts.now)))) }
 {
     if !are_in(decls, Family::Basis, sorts) {
         return Ok(None);
@@ -165,7 +165,7 @@ fn tuple(alloc: Global, decls: &Decls, sorts: &[TermSort]) -> Result<Option<Term
 /// A basis sort, behind a number or alone, gives its multisets.
 fn counted(alloc: Global, decls: &Decls, sorts: &[TermSort]) -> Result<Option<TermSort>, AllocError>
     requires { 0 < length sorts.now }
-    ensures { IfOk result (IsGiven (is_counted decls.now sorts.now ≡ true) (TermSort.Bag (basis_of (last_of sorts.now)))) }
+    ensures { IfOk result (IsGivenWhere (is_counted decls.now sorts.now ≡ true) (TermSort.Bag (basis_of (last_of sorts.now)))) }
 {
     let last = sort_at(sorts, sorts.len() - 1);
     let is_alone = sorts.len() == 1;
@@ -180,7 +180,7 @@ fn counted(alloc: Global, decls: &Decls, sorts: &[TermSort]) -> Result<Option<Te
 /// Multisets over one sort give the same sort.
 fn bags(alloc: Global, decls: &Decls, sorts: &[TermSort]) -> Result<Option<TermSort>, AllocError>
     requires { 0 < length sorts.now }
-    ensures { IfOk result (IsGiven (AreIn decls.now Family.Bags sorts.now × AreAlike sorts.now) (first_of sorts.now)) }
+    ensures { IfOk result (IsGivenWhere (AreIn decls.now Family.Bags sorts.now × AreAlike sorts.now) (first_of sorts.now)) }
 {
     if are_in(decls, Family::Bags, sorts) && are_alike(sorts) {
         return Ok(Some(sort_at(sorts, 0).copy(alloc)?));
@@ -191,7 +191,7 @@ fn bags(alloc: Global, decls: &Decls, sorts: &[TermSort]) -> Result<Option<TermS
 /// A number and a multiset give the multiset's sort.
 fn scaled(alloc: Global, decls: &Decls, sorts: &[TermSort]) -> Result<Option<TermSort>, AllocError>
     requires { 0 < length sorts.now }
-    ensures { IfOk result (IsGiven (is_scaled decls.now sorts.now ≡ true) (last_of sorts.now)) }
+    ensures { IfOk result (IsGivenWhere (is_scaled decls.now sorts.now ≡ true) (last_of sorts.now)) }
 {
     let last = sort_at(sorts, sorts.len() - 1);
     if is_in(decls, Family::Integers, sort_at(sorts, 0)) && is_in(decls, Family::Bags, last) {

@@ -5,9 +5,10 @@ ghost use Rattle.std.specs.List.{Contains};
 ghost use Rattle.pn_faults.specs.declared.fault.Fault.{Fault};
 ghost use Rattle.pn_faults.specs.declared.fault.Refusal.{Refusal};
 ghost use Rattle.pn_faults.specs.Standing.{IsLeastOf};
+ghost use Rattle.pn_faults.specs.Walks.{IsWalked, StandsInSome};
 ghost use Rattle.pn_sorts.specs.Standing.{IsFaultless};
-ghost use Rattle.pn_terms.specs.Sorts.{HasSort};
-ghost use Rattle.pn_terms.specs.Standing.{AreWalked, HasSoundSorts, IsWalked, StandsIn};
+ghost use Rattle.pn_terms.specs.Sorts.{HasSort, HaveSorts};
+ghost use Rattle.pn_terms.specs.Standing.{HasSoundSorts, StandsIn};
 ghost use Rattle.pn_syntax.specs.declared.term.Term.{Term};
 
 use crate::nodes::{
@@ -56,7 +57,7 @@ fn walk(
 ) -> Result<Option<TermSort>, AllocError>
     requires faultless { IsFaultless decls.now }
     requires sound { HasSoundSorts decls.now term.now }
-    ensures { IfOk result (λ sort. IsWalked decls.now term.now sort least.old least.new) }
+    ensures { IfOk result (λ sort. IsWalked (HasSort decls.now term.now) (StandsIn decls.now term.now) sort least.old least.new) }
 {
     let at = term.at;
     match &term.node {
@@ -97,7 +98,7 @@ fn walk_all(
 ) -> Result<Option<Items<TermSort>>, AllocError>
     requires faultless { IsFaultless decls.now }
     requires sound { (e : Term) → Contains terms.now e → HasSoundSorts decls.now e }
-    ensures { IfOk result (λ sorts. AreWalked decls.now terms.now sorts least.old least.new) }
+    ensures { IfOk result (λ sorts. IsWalked (HaveSorts decls.now terms.now) (StandsInSome (StandsIn decls.now) terms.now) sorts least.old least.new) }
 {
     let mut sorts = Items::new(alloc);
     let mut is_whole = true;

@@ -85,18 +85,18 @@ then_chain Equal Equal c p q s both left right rest h k = ap (λ o. ordering_the
 then_chain Equal Greater c p q s both left right rest h k = absurd (false≢true (ap is_lt k))
 then_chain Greater b c p q s both left right rest h k = absurd (false≢true (ap is_lt h))
 
-pub record IsOrdered {A : Type 0} (R : A → A → Ordering) (a : A) : Type 0 where
+pub record IsLawfulAt {A : Type 0} (R : A → A → Ordering) (a : A) : Type 0 where
   pub back : (b : A) → R a b ≡ ordering_reverse (R b a)
   pub chain : (b c : A) → R a b ≡ Less → R b c ≡ Less → R a c ≡ Less
 
 module _ {A : Type 0} (R : A → A → Ordering) (exact : CmpEqualImpliesEq R) where
-  lists_back : (xs : List ((a : A) × IsOrdered R a)) (ys : List A) → slice_cmp R (map (λ e. e.0) xs) ys ≡ ordering_reverse (slice_cmp R ys (map (λ e. e.0) xs))
+  lists_back : (xs : List ((a : A) × IsLawfulAt R a)) (ys : List A) → slice_cmp R (map (λ e. e.0) xs) ys ≡ ordering_reverse (slice_cmp R ys (map (λ e. e.0) xs))
   lists_back [] [] = refl
   lists_back [] (y ∷ ys) = refl
   lists_back (x ∷ xs) [] = refl
   lists_back (x ∷ xs) (y ∷ ys) = (λ i. ordering_then (x.1.back y i) (lists_back xs ys i)) ∙ then_flip (R y x.0) (slice_cmp R ys (map (λ e. e.0) xs))
 
-  lists_chain : (xs : List ((a : A) × IsOrdered R a)) (ys zs : List A) → slice_cmp R (map (λ e. e.0) xs) ys ≡ Less → slice_cmp R ys zs ≡ Less → slice_cmp R (map (λ e. e.0) xs) zs ≡ Less
+  lists_chain : (xs : List ((a : A) × IsLawfulAt R a)) (ys zs : List A) → slice_cmp R (map (λ e. e.0) xs) ys ≡ Less → slice_cmp R ys zs ≡ Less → slice_cmp R (map (λ e. e.0) xs) zs ≡ Less
   lists_chain [] [] zs h k = absurd (false≢true (ap is_lt h))
   lists_chain [] (y ∷ ys) [] h k = absurd (false≢true (ap is_lt k))
   lists_chain [] (y ∷ ys) (z ∷ zs) h k = refl
@@ -159,7 +159,7 @@ parts-map f (layer.List items) = refl
 parts-map f _ = refl
 
 abbrev Ordered : Value → Type 0
-Ordered = IsOrdered value_cmp
+Ordered = IsLawfulAt value_cmp
 
 -- the order of two values by all but their parts, then by their parts
 by_parts : (a b : Value) → value_cmp a b ≡ ordering_then (outer_cmp (out-Value a) (out-Value b)) (slice_cmp value_cmp (parts_of (out-Value a)) (parts_of (out-Value b)))

@@ -5,8 +5,6 @@ mod constant_ref;
 pub mod laws;
 mod order;
 mod sort;
-#[cfg(test)]
-mod tests;
 mod value;
 
 pub use constant_ref::ConstantRef;

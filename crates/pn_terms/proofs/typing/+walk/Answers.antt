@@ -1,7 +1,6 @@
 use Rattle.std.proofs.Common.{◌∙◌, ◌+◌, [], rules, sym, subst, take, cond, Some, None}
-use Rattle.pn_terms.specs.Standing.{AreWalked}
 use Rattle.pn_syntax.specs.declared.term.TermNode.TheViews.{the_lemmas}
-use Rattle.pn_terms.proofs.WalkLemmas.{all_end, all_none, all_step, all_stop, if_ok_more, next_of, sound_all, sound_args, sound_element, sound_empty, walked_all_values, walked_apply, walked_constant, walked_element, walked_empty, walked_no_apply, walked_no_element, walked_number, walked_range, walked_truth, walked_variable}
+use Rattle.pn_terms.proofs.WalkLemmas.{AreTermsWalked, all_end, all_none, all_step, all_stop, if_ok_more, next_of, sound_all, sound_args, sound_element, sound_empty, walked_all_values, walked_apply, walked_constant, walked_element, walked_empty, walked_no_apply, walked_no_element, walked_number, walked_range, walked_truth, walked_variable}
 use Rattle.pn_terms.proofs.typing.+walk.Goals as goal
 use Rattle.pn_terms.proofs.typing.+walk.Goals.{walk_all-in-Some+in_ok-push-in-Some, walk_all-in-None}
 
@@ -58,7 +57,7 @@ pub walk-returns-in-None-2 : goal.walk-returns-in-None-2
 walk-returns-in-None-2 t c = walked_no_apply c.args.decls.now c.args.term.now c.in-Apply.op c.in-Apply.args c.as_slice.result.now c.in-Apply.is c.as_slice.ensures c.in_ok-sorts-in-Apply.field-0 c.in-None-2.is c.args.least.now c.walk_all.new.least c.in_ok-sorts-in-Apply.ensures
 
 pub walk_all-loop-term-init : goal.walk_all-loop-term-init
-walk_all-loop-term-init t c = subst (λ ss. AreWalked c.args.decls.now [] (Some ss) c.args.least.now c.args.least.now) (sym c.new-sorts.ensures) (all_none c.args.decls.now c.args.least.now)
+walk_all-loop-term-init t c = subst (λ ss. AreTermsWalked c.args.decls.now [] (Some ss) c.args.least.now c.args.least.now) (sym c.new-sorts.ensures) (all_none c.args.decls.now c.args.least.now)
 
 pub walk_all-loop-term-preserved : goal.walk_all-loop-term-preserved
 walk_all-loop-term-preserved t c =

@@ -1,0 +1,20 @@
+//! The tests of operators, what is written, faults, values and terms, by what those crates make
+//! public.
+#![tactic(auto)]
+
+#[cfg(test)]
+mod declared;
+#[cfg(test)]
+mod faults;
+#[cfg(test)]
+mod operators;
+#[cfg(test)]
+mod refused;
+#[cfg(test)]
+mod sorted;
+#[cfg(test)]
+mod syntax;
+#[cfg(test)]
+mod tokens;
+#[cfg(test)]
+mod values;
