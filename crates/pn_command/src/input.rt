@@ -1,6 +1,6 @@
 //! Reading an input by the scanner.
 
-ghost use Rattle.std.specs.Prelude.{◌≡◌, ◌≢◌, ◌≤◌, ℕ, List, [], length, Err, IfErr, IfOk, IfSome, None, OnOk};
+ghost use Rattle.std.specs.Prelude.{◌≡◌, ◌≢◌, ◌≤◌, ℕ, List, [], length, Err, IfErr, IfOk, IfSome, None, OnOk, Option};
 ghost use Rattle.std.specs.Io.KnownBytes.{IsAtEnd};
 ghost use Rattle.pn_outside.specs.Cause.{Rose};
 ghost use Rattle.pn_scan.specs.Reading.{HasRead, fault_of};
@@ -46,6 +46,21 @@ fn stopped(fault: ScanFault) -> Result<Scanned, Stop>
         ScanFault::TooLong => Ok(Scanned::TooLong),
     }
 }
+
+/// What it says of the input that it was not read to its end.
+fn halted(halt: Halt) -> Result<Scanned, Stop>
+    ensures says { (old : Option (List ℕ)) → IfSome old (HaltSays halt) → IfOk result (λ s. IfSome old (λ b. IsScanned b s)) }
+    ensures fault { result ≡ Err Stop.Fault → halt ≡ Halt.Source }
+    ensures no_end { IfOk result (λ s. IsReadToEnd s → ⊥) }
+{
+    match halt {
+        Halt::Source => Err(Stop::Fault),
+        Halt::Scanner(fault) => stopped(fault),
+    }
+}
+
+/// Drops a scanner, so that no exit of its owner does.
+fn discard(_scanner: Scanner) {}
 
 /// What an input is of which the scanner was fed all.
 fn finished(scanner: Scanner) -> Result<Scanned, Stop>
@@ -101,7 +116,9 @@ pub(crate) fn scan_all<S: Source>(alloc: Global, source: &mut S) -> Result<Scann
     let mut scanner = Scanner::new(alloc);
     match feed_all(&mut scanner, source) {
         Ok(()) => finished(scanner),
-        Err(Halt::Source) => Err(Stop::Fault),
-        Err(Halt::Scanner(fault)) => stopped(fault),
+        Err(halt) => {
+            discard(scanner);
+            halted(halt)
+        }
     }
 }
