@@ -1,6 +1,6 @@
 //! The answer that is due.
 
-ghost use Rattle.std.specs.Prelude.{◌≡◌, ◌≢◌, ◌≤◌, ℕ, List, IfOk, IfSome, Err, Ok, None, map, length, string_bytes};
+ghost use Rattle.std.specs.Prelude.{◌≡◌, ◌≢◌, ◌≤◌, ◌⊎◌, ℕ, List, IfOk, IfSome, Err, Ok, None, map, length, string_bytes};
 ghost use Rattle.std.specs.Io.KnownBytes.{IsAtEnd};
 ghost use Rattle.pn_markup.specs.Document.{IsDocument};
 ghost use Rattle.pn_outside.specs.Cause.{Rose};
@@ -79,6 +79,7 @@ pub(crate) fn decide<S: Source>(
     ensures at_fault { result ≡ Err Stop.Fault → TakesBegun (S.left source.old) (S.left source.new) }
     ensures later { S.faults source.old ≤ S.faults source.new }
     ensures cause { result ≡ Err Stop.Fault → Rose (S.faults source.old) (S.faults source.new) }
+    ensures told { (result ≡ Err Stop.Fault) ⊎ (S.faults source.new ≡ S.faults source.old) }
 {
     let Some(asked) = asks(words) else {
         return Ok(Due::Line(Line::Usage));

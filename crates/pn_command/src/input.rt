@@ -1,6 +1,6 @@
 //! Reading an input by the scanner.
 
-ghost use Rattle.std.specs.Prelude.{◌≡◌, ◌≢◌, ◌≤◌, ℕ, List, [], length, Err, IfErr, IfOk, IfSome, None, OnOk, Option};
+ghost use Rattle.std.specs.Prelude.{◌≡◌, ◌≢◌, ◌≤◌, ◌⊎◌, ℕ, List, [], length, Err, IfErr, IfOk, IfSome, None, OnOk, Option};
 ghost use Rattle.std.specs.Io.KnownBytes.{IsAtEnd};
 ghost use Rattle.pn_outside.specs.Cause.{Rose};
 ghost use Rattle.pn_scan.specs.Reading.{HasRead, fault_of};
@@ -87,6 +87,7 @@ fn feed_all<S: Source>(scanner: &mut Scanner, source: &mut S) -> Result<(), Halt
     ensures at_fault { result ≡ Err Halt.Source → TakesBegun (S.left source.old) (S.left source.new) }
     ensures later { S.faults source.old ≤ S.faults source.new }
     ensures cause { result ≡ Err Halt.Source → Rose (S.faults source.old) (S.faults source.new) }
+    ensures told { (result ≡ Err Halt.Source) ⊎ (S.faults source.new ≡ S.faults source.old) }
 {
     let mut buffer = [0; 4096];
     let mut count = 0;
@@ -112,6 +113,7 @@ pub(crate) fn scan_all<S: Source>(alloc: Global, source: &mut S) -> Result<Scann
     ensures at_fault { result ≡ Err Stop.Fault → TakesBegun (S.left source.old) (S.left source.new) }
     ensures later { S.faults source.old ≤ S.faults source.new }
     ensures cause { result ≡ Err Stop.Fault → Rose (S.faults source.old) (S.faults source.new) }
+    ensures told { (result ≡ Err Stop.Fault) ⊎ (S.faults source.new ≡ S.faults source.old) }
 {
     let mut scanner = Scanner::new(alloc);
     match feed_all(&mut scanner, source) {

@@ -2,7 +2,7 @@
 //! for.
 
 ghost use Rattle.std.specs.Prelude.{◌≡◌, ◌++◌, codes, OnOk};
-ghost use Rattle.pn_outside.specs.Cause.{HasCause};
+ghost use Rattle.pn_outside.specs.Cause.{CountsFault, HasCause};
 ghost use Rattle.pn_outside.specs.Taking.{Puts};
 ghost use Rattle.pn_outside.specs.declared.limits.TheConstants.{BYTES};
 ghost use Rattle.pn_command.specs.Lines.{IsLine, count_text, limit_line, line_text, refusal_line, status_of};
@@ -64,6 +64,7 @@ pub(crate) fn put_count<K: Sink, N: Integer>(
 ) -> Result<(), Failed>
     ensures puts { Puts K.taken K.number result sink.old sink.new (label.now ++ N.text number) }
     ensures cause { HasCause (K.faults sink.old) (K.faults sink.new) result }
+    ensures counted { CountsFault (K.faults sink.old) (K.faults sink.new) result }
 {
     put_text(sink, label)?;
     let mut digits = Buffer::new();
@@ -74,6 +75,7 @@ pub(crate) fn put_count<K: Sink, N: Integer>(
 fn put_longer<K: Sink>(sink: &mut K, label: &str) -> Result<(), Failed>
     ensures puts { Puts K.taken K.number result sink.old sink.new (count_text label.now BYTES ++ codes " bytes\n") }
     ensures cause { HasCause (K.faults sink.old) (K.faults sink.new) result }
+    ensures counted { CountsFault (K.faults sink.old) (K.faults sink.new) result }
 {
     put_count(sink, label, BYTES)?;
     put_text(sink, " bytes\n")
@@ -83,6 +85,7 @@ fn put_longer<K: Sink>(sink: &mut K, label: &str) -> Result<(), Failed>
 fn put_limit<K: Sink>(sink: &mut K, limit: &Limit) -> Result<(), Failed>
     ensures puts { Puts K.taken K.number result sink.old sink.new (limit_line limit.now) }
     ensures cause { HasCause (K.faults sink.old) (K.faults sink.new) result }
+    ensures counted { CountsFault (K.faults sink.old) (K.faults sink.new) result }
 {
     match limit {
         Limit::Input => put_longer(sink, "pnml: limit: input longer than "),
@@ -94,6 +97,7 @@ fn put_limit<K: Sink>(sink: &mut K, limit: &Limit) -> Result<(), Failed>
 fn put_broken<K: Sink>(sink: &mut K, at: u64) -> Result<(), Failed>
     ensures puts { Puts K.taken K.number result sink.old sink.new (count_text (codes "pnml: byte ") at ++ codes ": broken\n") }
     ensures cause { HasCause (K.faults sink.old) (K.faults sink.new) result }
+    ensures counted { CountsFault (K.faults sink.old) (K.faults sink.new) result }
 {
     put_count(sink, "pnml: byte ", at)?;
     put_text(sink, ": broken\n")
@@ -103,6 +107,7 @@ fn put_broken<K: Sink>(sink: &mut K, at: u64) -> Result<(), Failed>
 fn put_refusal<K: Sink>(sink: &mut K, refusal: &Refusal) -> Result<(), Failed>
     ensures puts { Puts K.taken K.number result sink.old sink.new (refusal_line refusal.now) }
     ensures cause { HasCause (K.faults sink.old) (K.faults sink.new) result }
+    ensures counted { CountsFault (K.faults sink.old) (K.faults sink.new) result }
 {
     match refusal {
         Refusal::Broken(at) => put_broken(sink, *at),
@@ -114,6 +119,7 @@ fn put_refusal<K: Sink>(sink: &mut K, refusal: &Refusal) -> Result<(), Failed>
 fn put_line<K: Sink>(sink: &mut K, line: &Line) -> Result<(), Failed>
     ensures puts { Puts K.taken K.number result sink.old sink.new (line_text line.now) }
     ensures cause { HasCause (K.faults sink.old) (K.faults sink.new) result }
+    ensures counted { CountsFault (K.faults sink.old) (K.faults sink.new) result }
 {
     match line {
         Line::Usage => put_text(sink, USAGE),
@@ -127,6 +133,7 @@ pub(crate) fn write_line<K: Sink>(sink: &mut K, line: &Line) -> Result<(), Faile
     ensures puts { Puts K.taken K.number result sink.old sink.new (line_text line.now) }
     ensures settled { OnOk result (K.settled sink.new) }
     ensures cause { HasCause (K.faults sink.old) (K.faults sink.new) result }
+    ensures counted { CountsFault (K.faults sink.old) (K.faults sink.new) result }
 {
     put_line(sink, line)?;
     sink.done()

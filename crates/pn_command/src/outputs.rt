@@ -1,7 +1,7 @@
 //! What the program writes to the standard output.
 
 ghost use Rattle.std.specs.Prelude.{◌≡◌, ◌↔◌, IfOk, IsTrue, OnOk, sum_by};
-ghost use Rattle.pn_outside.specs.Cause.{HasCause};
+ghost use Rattle.pn_outside.specs.Cause.{CountsFault, HasCause};
 ghost use Rattle.pn_outside.specs.Taking.{Puts};
 ghost use Rattle.pn_command.specs.Links.{IsPlain};
 ghost use Rattle.pn_command.specs.Outputs.{IsOver, output_of, output_text, summary_line, summary_of_page, tokens_of};
@@ -80,6 +80,7 @@ pub(crate) fn is_over(output: &Output) -> bool
 fn put_summary<K: Sink>(sink: &mut K, summary: Summary) -> Result<(), Failed>
     ensures puts { Puts K.taken K.number result sink.old sink.new (summary_line summary) }
     ensures cause { HasCause (K.faults sink.old) (K.faults sink.new) result }
+    ensures counted { CountsFault (K.faults sink.old) (K.faults sink.new) result }
 {
     put_count(sink, "ptnet places ", summary.places)?;
     put_count(sink, " transitions ", summary.transitions)?;
@@ -92,6 +93,7 @@ fn put_summary<K: Sink>(sink: &mut K, summary: Summary) -> Result<(), Failed>
 fn put_output<K: Sink>(sink: &mut K, output: &Output) -> Result<(), Failed>
     ensures puts { Puts K.taken K.number result sink.old sink.new (output_text output.now) }
     ensures cause { HasCause (K.faults sink.old) (K.faults sink.new) result }
+    ensures counted { CountsFault (K.faults sink.old) (K.faults sink.new) result }
 {
     match output {
         Output::Summary(summary) => put_summary(sink, *summary),
@@ -104,6 +106,7 @@ pub(crate) fn write_output<K: Sink>(sink: &mut K, output: &Output) -> Result<(),
     ensures puts { Puts K.taken K.number result sink.old sink.new (output_text output.now) }
     ensures settled { OnOk result (K.settled sink.new) }
     ensures cause { HasCause (K.faults sink.old) (K.faults sink.new) result }
+    ensures counted { CountsFault (K.faults sink.old) (K.faults sink.new) result }
 {
     put_output(sink, output)?;
     sink.done()

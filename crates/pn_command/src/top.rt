@@ -1,6 +1,6 @@
 //! The top call.
 
-ghost use Rattle.std.specs.Prelude.{◌≡◌, ◌≤◌, ◌⊎◌, IfSome, OnOk, OnErr, Err, None, map, string_bytes};
+ghost use Rattle.std.specs.Prelude.{◌≡◌, ◌<◌, ◌≤◌, ◌⊎◌, IfSome, OnOk, OnErr, Err, None, map, string_bytes};
 ghost use Rattle.std.specs.Io.KnownBytes.{IsAtEnd};
 ghost use Rattle.pn_outside.specs.Cause.{Rose};
 ghost use Rattle.pn_command.specs.Answer.{Answers, Begins, EachAnswer, ForAnswer, IsAnswer, RoseWhereDue, answer_of};
@@ -36,6 +36,7 @@ fn deliver<O: Sink, E: Sink>(due: &Due, out: &mut O, err: &mut E) -> Status
     ensures done { result ≡ Status.Done → O.settled out.new × (err.new ≡ err.old) }
     ensures line { IsLine result → E.settled err.new × (out.new ≡ out.old) }
     ensures later { (O.faults out.old ≤ O.faults out.new) × (E.faults err.old ≤ E.faults err.new) }
+    ensures told { (result ≡ Status.WriteFault) ⊎ ((O.faults out.new ≡ O.faults out.old) × (E.faults err.new ≡ E.faults err.old)) }
 {
     match due {
         Due::Line(line) => ended(write_line(err, line), line.status()),
@@ -70,6 +71,10 @@ pub fn run<S: Source, T: Source, O: Sink, E: Sink>(
         (λ a. RoseWhereDue a.status (O.faults out.old) (O.faults out.new) (E.faults err.old) (E.faults err.new))) }
     ensures write_fault_untold { result ≡ Status.WriteFault → Rose (O.faults out.old) (O.faults out.new) ⊎ Rose (E.faults err.old) (E.faults err.new) }
 
+    // Each fault that is counted is told, below the end of its count: no failed call is followed by another answer.
+    ensures read_fault_told { S.faults source.old < S.faults source.new → result ≡ Status.ReadFault }
+    ensures write_fault_told { (O.faults out.old < O.faults out.new) ⊎ (E.faults err.old < E.faults err.new) → result ≡ Status.WriteFault }
+
     // What was read before a failed read is a front of a document, within the limit. However the
     // call ends, at most one piece more than that was read.
     ensures read_fault_begun { result ≡ Status.ReadFault → TakesBegun (S.left source.old) (S.left source.new) }
@@ -84,6 +89,9 @@ pub fn run<S: Source, T: Source, O: Sink, E: Sink>(
     ensures unread { asked_of (map string_bytes words.now) ≡ None → source.new ≡ source.old }
     ensures misused { asked_of (map string_bytes words.now) ≡ None → (result ≡ Status.Usage) ⊎ (result ≡ Status.WriteFault) }
     ensures usage { result ≡ Status.Usage → asked_of (map string_bytes words.now) ≡ None }
+
+    // Memory is wanted before anything is written.
+    ensures memory { result ≡ Status.OutOfMemory → (out.new ≡ out.old) × (err.new ≡ err.old) }
 
     // What stands afterwards.
     ensures done { result ≡ Status.Done → O.settled out.new × (err.new ≡ err.old) }

@@ -49,5 +49,5 @@ fn answer(rt: HostRuntime) -> Status {
 }
 
 fn main(rt: HostRuntime) -> ExitCode {
-    ExitCode::from(answer(rt) as u8)
+    ExitCode::from(answer(rt).number())
 }

@@ -1,4 +1,4 @@
-use Rattle.std.proofs.Common.{◌+◌, take, subst, arith}
+use Rattle.std.proofs.Common.{◌+◌, inr, refl, ◌∙◌, take, subst, arith}
 use Rattle.std.proofs.lemmas.List.{length-take-le}
 use Rattle.std.specs.Io.KnownBytes.{Consumes}
 use Rattle.pn_command.specs.Reading.{IsFed}
@@ -6,7 +6,7 @@ use Rattle.pn_command.proofs.ReadingLemmas.{at_first, gave_nothing, kept, no_fur
 use Rattle.pn_command.proofs.input.feed_all.Goals as goal
 
 pub loop-count-init : goal.loop-count-init
-loop-count-init g c = record { so_far = at_first c.args.scanner.now (g.S.Source.left c.args.source.now) c.requires.fed c.requires.no_fault; later = omega arith }
+loop-count-init g c = record { so_far = at_first c.args.scanner.now (g.S.Source.left c.args.source.now) c.requires.fed c.requires.no_fault; later = omega arith; unfailed = refl }
 
 pub returns-in-Ok-eq0-clause-fed : goal.returns-in-Ok-eq0-clause-fed
 returns-in-Ok-eq0-clause-fed g c =
@@ -24,6 +24,9 @@ returns-in-Ok-eq0-clause-no_further g c =
 pub returns-in-Ok-eq0-clause-later : goal.returns-in-Ok-eq0-clause-later
 returns-in-Ok-eq0-clause-later g c = omega (arith, c.loop-count.invariant.later, c.in-Ok-eq0.ensures.cause.later)
 
+pub returns-in-Ok-eq0-clause-told : goal.returns-in-Ok-eq0-clause-told
+returns-in-Ok-eq0-clause-told g c = inr (c.in-Ok-eq0.ensures.counted ∙ c.loop-count.invariant.unfailed)
+
 pub feed-requires : goal.feed-requires
 feed-requires g c = was_fed c.loop-count.scanner (g.S.Source.left c.args.source.now) (g.S.Source.left c.loop-count.source) c.loop-count.count c.loop-count.invariant.so_far
 
@@ -35,6 +38,7 @@ loop-count-preserved g c =
           (one_piece c.loop-count.scanner (left c.args.source.now) (left c.loop-count.source) c.loop-count.count c.loop-count.invariant.so_far (left c.read.new.self) c.feed.new.self
           (take c.in-Ok.size c.read.new.into) c.in-Ok.ensures.reads.0 c.in-Ok-feed.ensures.read c.in-Ok-feed.ensures.answer c.in-Ok-feed.ensures.goes);
       later = omega (arith, c.loop-count.invariant.later, c.in-Ok.ensures.cause.later);
+      unfailed = c.in-Ok.ensures.counted ∙ c.loop-count.invariant.unfailed;
     }
 
 pub returns-in-Err-feed-clause-says : goal.returns-in-Err-feed-clause-says
@@ -51,6 +55,9 @@ returns-in-Err-feed-clause-no_further g c =
 
 pub returns-in-Err-feed-clause-later : goal.returns-in-Err-feed-clause-later
 returns-in-Err-feed-clause-later g c = omega (arith, c.loop-count.invariant.later, c.in-Ok.ensures.cause.later)
+
+pub returns-in-Err-feed-clause-told : goal.returns-in-Err-feed-clause-told
+returns-in-Err-feed-clause-told g c = inr (c.in-Ok.ensures.counted ∙ c.loop-count.invariant.unfailed)
 
 pub returns-in-Err-clause-says : goal.returns-in-Err-clause-says
 returns-in-Err-clause-says g c = nothing_said (g.S.Source.left c.args.source.now)
