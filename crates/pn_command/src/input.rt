@@ -51,6 +51,7 @@ fn stopped(fault: ScanFault) -> Result<Scanned, Stop>
 fn halted(halt: Halt) -> Result<Scanned, Stop>
     ensures says { (old : Option (List ℕ)) → IfSome old (HaltSays halt) → IfOk result (λ s. IfSome old (λ b. IsScanned b s)) }
     ensures fault { result ≡ Err Stop.Fault → halt ≡ Halt.Source }
+    ensures source { halt ≡ Halt.Source → result ≡ Err Stop.Fault }
     ensures no_end { IfOk result (λ s. IsReadToEnd s → ⊥) }
 {
     match halt {
