@@ -80,9 +80,13 @@ fn refuses(rt: &impl Abort, alloc: Global, decls: &Decls) -> Result<(), Fail> {
     Ok(())
 }
 
+fn has_fault(rt: &impl Abort, decls: &Decls, reason: Reason, at: u64, detail: &str) {
+    assert!(rt; tells(decls, reason, at, detail));
+}
+
 fn is_a_circle(rt: &impl Abort, alloc: Global, items: &[Declaration]) -> Result<(), Fail> {
     let decls = build(rt, alloc, items)?;
-    assert!(rt; tells(&decls, Reason::SortCycle, 171, "s"));
+    has_fault(rt, &decls, Reason::SortCycle, 171, "s");
     refuses(rt, alloc, &decls)
 }
 
@@ -94,7 +98,7 @@ fn sorts_that_name_each_other(rt: HostRuntime) -> Result<(), Fail> {
 
 fn is_badly_split(rt: &impl Abort, alloc: Global, items: &[Declaration]) -> Result<(), Fail> {
     let decls = build(rt, alloc, items)?;
-    assert!(rt; tells(&decls, Reason::BadPartition, 7, "p"));
+    has_fault(rt, &decls, Reason::BadPartition, 7, "p");
     Ok(())
 }
 
@@ -119,11 +123,15 @@ fn resolves(rt: &impl Abort, alloc: Global, decls: &Decls) -> Result<(), Fail> {
     Ok(())
 }
 
+fn has_no_fault(rt: &impl Abort, alloc: Global, decls: &Decls) -> Result<(), Fail> {
+    assert!(rt; decls.fault().is_none());
+    assert!(rt; has_last(decls, "e3"));
+    resolves(rt, alloc, decls)
+}
+
 fn have_no_fault(rt: &impl Abort, alloc: Global, items: &[Declaration]) -> Result<(), Fail> {
     let decls = build(rt, alloc, items)?;
-    assert!(rt; decls.fault().is_none());
-    assert!(rt; has_last(&decls, "e3"));
-    resolves(rt, alloc, &decls)
+    has_no_fault(rt, alloc, &decls)
 }
 
 #[test]

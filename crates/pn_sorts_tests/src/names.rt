@@ -102,20 +102,30 @@ fn constants_tell_their_ids(rt: &impl Abort, items: &[Declaration], index: &Inde
     }
 }
 
-fn find_by_kind(rt: &impl Abort, index: &Index) {
-    assert_eq!(rt; index.sort_place("day"), Some(2));
-    assert_eq!(rt; index.sort_place("half"), Some(3));
-    assert_eq!(rt; index.sort_place("x"), None);
-    assert_eq!(rt; index.partition("half"), Some(3));
-    assert_eq!(rt; index.partition("day"), None);
-    assert_eq!(rt; index.variable("y"), Some(1));
-    assert_eq!(rt; index.variable("red"), None);
+fn find_sorts(rt: &impl Abort, index: &Index) {
+    for (id, want) in [("day", Some(2)), ("half", Some(3)), ("x", None)] {
+        assert_eq!(rt; index.sort_place(id), want, "{id}");
+    }
+}
+
+fn find_partitions(rt: &impl Abort, index: &Index) {
+    for (id, want) in [("half", Some(3)), ("day", None)] {
+        assert_eq!(rt; index.partition(id), want, "{id}");
+    }
+}
+
+fn find_variables(rt: &impl Abort, index: &Index) {
+    for (id, want) in [("y", Some(1)), ("red", None)] {
+        assert_eq!(rt; index.variable(id), want, "{id}");
+    }
 }
 
 fn are_named(rt: &impl Abort, alloc: Global, items: &[Declaration]) -> Result<(), Fail> {
     let index = index_of(rt, alloc, items)?;
     find(rt, &index);
-    find_by_kind(rt, &index);
+    find_sorts(rt, &index);
+    find_partitions(rt, &index);
+    find_variables(rt, &index);
     constants_tell_their_ids(rt, items, &index);
     Ok(())
 }
