@@ -126,9 +126,6 @@ is_inside e views n other all so_far = seen_kids e other ∙ ap seen (sym (take_
 pub bare_attrs : (e x : Element) → bare e ≡ x → e.attrs ≡ x.attrs
 bare_attrs e x same = ap (λ y. y.attrs) (sym (bare_is e)) ∙ ap (λ y. y.attrs) same
 
-pub bare_name : (e x : Element) → bare e ≡ x → e.name ≡ x.name
-bare_name e x same = ap (λ y. y.name) (sym (bare_is e)) ∙ ap (λ y. y.name) same
-
 pub bare_made : (e : Element) (name : List ℕ) (attrs : List Attr) (inner : List Child) → e.name ≡ name → e.attrs ≡ attrs → (bare e).kids ≡ inner → bare e ≡ made name attrs inner
 bare_made e name attrs inner n a k =
     let is : bare e ≡ made e.name e.attrs (bare e).kids = bare_is e ∙ ap (λ (ks : List Child). made e.name e.attrs ks) (ap (λ x. x.kids) (sym (bare_is e))) in
@@ -183,11 +180,6 @@ text_number_text e k t number named bare_of_attrs one at is spells = by number s
 -- an element with a text in it is not made of these elements
 pub texted : (e x : Element) (elements : List Element) → HasText e → x.kids ≡ map children.Element elements → bare e ≢ x
 texted e x elements text are same = text elements (ap (λ y. y.kids) same ∙ are)
-
-pub only_item : {A : Type 0} (xs : List A) (x d : A) → length xs ≡ 1 → x ≡ get_or xs 0 d → xs ≡ x ∷ []
-only_item [] x d n at = cc
-only_item (y ∷ []) x d n at = cc
-only_item (y ∷ z ∷ ys) x d n at = cc
 
 pub same_element : (e x : Element) → children.Element e ≡ children.Element x → e ≡ x
 same_element e x same = layer_element (out-Child (children.Element e)) (out-Child (children.Element x)) e x (out_element e) (out_element x) (ap out-Child same)

@@ -171,10 +171,6 @@ net_is e id own v p named two same has typed inside read = (
       (inside ∙ ap (λ x. children.Element x ∷ []) read.1),
 )
 
--- an element whose second attribute isn't the type of a net is no net
-pub net_untyped : (e : Element) → (slice_get e.attrs 1 ≡ Some net_type → ⊥) → (n : PlainNet) → bare e ≢ net_element n
-net_untyped e none n same = none (ap (λ l. slice_get l 1) (bare_attrs e (net_element n) same))
-
 pub net_many : (e : Element) → ((x : Element) → (bare e).kids ≢ children.Element x ∷ []) → (n : PlainNet) → bare e ≢ net_element n
 net_many e none n same = none (page_tree n.page) (ap (λ x. x.kids) same)
 
@@ -184,9 +180,6 @@ net_no_page e v inside none n is same =
 
 abbrev pub root_space : Attr
 root_space = attribute (codes "xmlns") (codes "http://www.pnml.org/version-2009/grammar/pnml")
-
-pub root_elsewhere : (e : Element) → (slice_get e.attrs 0 ≡ Some root_space → ⊥) → (n : PlainNet) → bare e ≢ tree_of_net n
-root_elsewhere e none n same = none (ap (λ l. slice_get l 0) (bare_attrs e (tree_of_net n) same))
 
 pub root_many : (e : Element) → ((x : Element) → (bare e).kids ≢ children.Element x ∷ []) → (n : PlainNet) → bare e ≢ tree_of_net n
 root_many e none n same = none (net_element n) (ap (λ x. x.kids) same)

@@ -1,11 +1,9 @@
 -- What a plain net's tree is made of.
-use Rattle.std.proofs.Common.{◌≡◌, ℕ, ◌+◌, ◌%◌, ◌^◌, ◌<◌, true, false, ◌&&◌, not, ◌==◌, nat_lt, List, [], ◌∷◌, ◌++◌, length, map, take, get_or, append_assoc, append-nil, add-one, decimal, codes, Option, IsSome, refl, sym, ap, ◌∙◌, subst, arith}
+use Rattle.std.proofs.Common.{◌≡◌, ℕ, ◌+◌, ◌%◌, ◌^◌, ◌<◌, true, false, ◌&&◌, not, ◌==◌, nat_lt, List, [], ◌∷◌, ◌++◌, length, append_assoc, append-nil, decimal, codes, Option, IsSome, refl, sym, ap, ◌∙◌, subst, arith}
 use Rattle.std.proofs.lemmas.Bool.Decides.{nat_tests}
 use Rattle.std.proofs.lemmas.Fmt.{decimal_by_steps, decimal_nonempty}
 use Rattle.std.proofs.lemmas.Slice.Eq.{bytes_eq-Decides}
-use Rattle.std.proofs.lemmas.List.{map-append}
 use Rattle.std.proofs.Math.Nat.{mod-lt}
-use Rattle.std.proofs.Math.Seq.{take-suc}
 use Rattle.std.specs.List.{list_all, flat_map}
 use Rattle.std.specs.Str.{bytes_eq}
 use Rattle.pn_facts.proofs.Truths.{and_both, and_left, and_right}
@@ -141,10 +139,3 @@ open_by f root (e ∷ es) some = (refl, refl)
 
 pub open_still : (levels : ℕ) (f : Element → Element) (b : Building) → CanNest levels b → CanNest levels (at_innermost f b)
 open_still levels f b is = let still = open_by f b.root b.open_elements is.some in record { unended = is.unended; some = still.0; room = rw still.1 is.room }
-
--- one more item's kid in a loop
-pub kid_next : {A : Type 0} (kid : A → Child) (items : List A) (i : ℕ) (d : A) (lt : i < length items) (b now next : Building)
-    → now ≡ at_innermost (with_kids (map kid (take i items))) b → next ≡ at_innermost (with_kid (kid (get_or items i d))) now → next ≡ at_innermost (with_kids (map kid (take (i + 1) items))) b
-kid_next kid items i d lt b now next before step =
-    let more : map kid (take (i + 1) items) ≡ map kid (take i items) ++ kid (get_or items i d) ∷ [] = ap (map kid) (rw add-one (take-suc items i d lt)) ∙ map-append kid (take i items) (get_or items i d ∷ []) in
-    step ∙ ap (at_innermost (with_kid (kid (get_or items i d)))) before ∙ more_kids b (map kid (take i items)) (kid (get_or items i d) ∷ []) ∙ ap (λ ks. at_innermost (with_kids ks) b) (sym more)
