@@ -1,5 +1,5 @@
 -- What a plain net's tree is made of.
-use Rattle.std.proofs.Common.{◌≡◌, ℕ, ◌+◌, ◌%◌, ◌^◌, ◌<◌, true, false, ◌&&◌, not, ◌==◌, nat_lt, List, [], ◌∷◌, ◌++◌, length, append_assoc, append-nil, decimal, codes, Option, IsSome, refl, sym, ap, ◌∙◌, subst, arith}
+use Rattle.std.proofs.Common.{◌≡◌, ℕ, ◌+◌, ◌%◌, ◌^◌, ◌<◌, true, false, ◌&&◌, not, ◌==◌, nat_lt, List, [], ◌∷◌, ◌++◌, length, append-nil, decimal, codes, Option, IsSome, refl, sym, ap, ◌∙◌, subst, arith}
 use Rattle.std.proofs.lemmas.Bool.Decides.{nat_tests}
 use Rattle.std.proofs.lemmas.Fmt.{decimal_by_steps, decimal_nonempty}
 use Rattle.std.proofs.lemmas.Slice.Eq.{bytes_eq-Decides}
@@ -123,13 +123,6 @@ unchanged f same root (e ∷ es) = ap (λ (v : Element). record { root = root; o
 -- no kids change nothing
 pub no_kids : (b : Building) → at_innermost (with_kids []) b ≡ b
 no_kids b = unchanged (with_kids []) (λ e. ap (λ (v : List Child). record { name = e.name; at = e.at; attrs = e.attrs; kids = v }) (append-nil e.kids)) b.root b.open_elements
-
--- kids, and then more
-pub more_kids : (b : Building) (ks ls : List Child) → at_innermost (with_kids ls) (at_innermost (with_kids ks) b) ≡ at_innermost (with_kids (ks ++ ls)) b
-more_kids b ks ls =
-    changed_twice (with_kids ls) (with_kids ks) b.root b.open_elements
-    ∙ changed_alike (λ e. with_kids ls (with_kids ks e)) (with_kids (ks ++ ls))
-    (λ e. ap (λ (v : List Child). record { name = e.name; at = e.at; attrs = e.attrs; kids = v }) (append_assoc e.kids ks ls)) b.root b.open_elements
 
 -- the innermost element stays open where it is changed
 open_by : (f : Element → Element) (root : Option Element) (es : List Element) → IsSome (innermost (record { root = root; open_elements = es }))
