@@ -2,6 +2,7 @@ pub mod NumberLemmas
 pub mod PlaceLemmas
 pub mod ChoiceLemmas
 pub mod SizeLemmas
+pub mod KinLemmas
 pub mod LayerLemmas
 pub mod MemberLemmas
 pub mod ValueLemmas

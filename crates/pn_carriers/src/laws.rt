@@ -2,6 +2,7 @@
 
 ghost use Rattle.std.specs.Prelude.{◌≡◌, ◌↔◌, ℕ, List, true, Some, Contains, slice_get};
 ghost use Rattle.std.specs.Ordering.{nat_cmp};
+ghost use Rattle.pn_values.specs.Kin.{kin_of};
 ghost use Rattle.pn_values.specs.Order.{value_cmp};
 ghost use Rattle.pn_values.specs.declared.sort.Sort.{Sort};
 ghost use Rattle.pn_values.specs.declared.value.Value.{Value};
@@ -26,4 +27,9 @@ pub fn values_stand_in_order()
     ensures { (widths : List ℕ) (sort : Sort) (u v : Value) (i j : ℕ)
         → slice_get (carrier widths sort) i ≡ Some u → slice_get (carrier widths sort) j ≡ Some v
         → value_cmp u v ≡ nat_cmp i j }
+{}
+
+/// A finite sort is its own kin, so a term of a finite sort has the very sort that is declared.
+pub fn finite_is_its_own_kin()
+    ensures { (sort : Sort) → is_finite sort ≡ true → kin_of sort ≡ sort }
 {}

@@ -10,6 +10,8 @@ pub mod Options
 pub mod MakeLemmas
 pub mod Meanings
 pub mod NameLemmas
+pub mod NamingLemmas
+pub mod OffsetLemmas
 pub mod ResolveLemmas
 pub mod TableLemmas
 pub mod TruthLemmas

@@ -1,7 +1,7 @@
 -- What the calls of a table tell of an expression.
-use Rattle.std.proofs.Common.{◌≡◌, ℕ, suc, ◌≤◌, List, Option, Some, None, refl, sym, ap, ◌∙◌, subst, arith}
+use Rattle.std.proofs.Common.{◌≡◌, ◌⊎◌, inl, inr, ℕ, suc, ◌≤◌, List, Option, Some, None, refl, sym, ap, ◌∙◌, subst, arith}
 use Rattle.std.specs.List.{Contains}
-use Rattle.std.specs.Option.{option_map}
+use Rattle.std.specs.Option.{option_and_then, option_map}
 use Rattle.pn_faults.specs.declared.fault.Fault.{Fault}
 use Rattle.pn_faults.specs.Order.{fault_at}
 use Rattle.pn_faults.specs.Least.{least_fault, lower}
@@ -15,15 +15,17 @@ use Rattle.pn_names.specs.Names.{names_of, sort_named}
 use Rattle.pn_resolve.specs.declared.extent.Extent.{Extent}
 use Rattle.pn_resolve.specs.declared.extent.Extent.TheVariants.{NoSort, TooBig, Fits}
 use Rattle.pn_resolve.specs.Extents.{extent_of}
-use Rattle.pn_resolve.specs.Meaning.{sort_with, meaning, Resolves, HasNoSort}
-use Rattle.pn_resolve.specs.Standing.{itself, IsBig, sort_too_big, StandsInSort, StandsBesides, element_name}
+use Rattle.pn_syntax.specs.declared.sort_expr.SortNode.TheOpen as layer
+use Rattle.pn_resolve.specs.Meaning.{sort_at_place, sort_with, meaning, Resolves, HasNoSort}
+use Rattle.pn_resolve.specs.Standing.{itself, IsBig, IsNameOf, sort_too_big, StandsInSort, StandsBesides, element_name}
 use Rattle.pn_faults.specs.Walks.{KeepsLeast}
-use Rattle.pn_resolve.specs.Tables.{extent_in, within, small, kept_by, IsExtent, IsTable}
+use Rattle.pn_resolve.specs.Tables.{Entries, extent_in, sort_in, within, small, kept_by, IsExtent, IsTable}
 use Rattle.pn_resolve.specs.Telling.{told, known_by}
-use Rattle.pn_resolve.proofs.ExtentLemmas.{fits_told, small_not_big}
+use Rattle.pn_resolve.proofs.Expressions.{out_user, sort_at}
+use Rattle.pn_resolve.proofs.ExtentLemmas.{big_told, fits_told, small_not_big}
 use Rattle.pn_resolve.proofs.FaultLemmas.{stands_told, told_stands, Why, by_fault, by_name, why}
 use Rattle.pn_resolve.proofs.LeastLemmas.{least_of}
-use Rattle.pn_resolve.proofs.Meanings.{resolves_once}
+use Rattle.pn_resolve.proofs.Meanings.{meaning_next, resolves_once}
 use Rattle.pn_resolve.proofs.TableLemmas.{IsRightAt}
 use Rattle.pn_resolve.proofs.TruthLemmas.{found, extent_tells, knows_faults, built}
 
@@ -114,3 +116,30 @@ module _ (items : List Declaration) (names : List (List ℕ × Declared)) (exten
       let none = no_sort_at_all faultless is in
       let gone : (told (known_by (names_of items) extents) e).extent ≡ NoSort = ap (λ w. w.extent) (sym renamed) ∙ extent_none none (told (known_by names extents) e).extent (extent_true (told (known_by names extents) e).extent refl) in
       (none, faultless, behind faultless (why (known_by (names_of items) extents) e gone))
+
+-- a name has the sort at its place
+name_means : (items : List Declaration) (place : ℕ) (e : SortExpr) → IsNameOf items place e → (levels : ℕ) → sort_with (meaning items (suc levels)) e ≡ sort_at_place items levels place
+name_means items place e n levels =
+    sort_at (meaning items (suc levels)) e (layer.User n.0) (out_user e.node n.0 n.1) ∙ meaning_next items levels n.0 ∙ ap (option_and_then (sort_at_place items levels)) n.2
+
+-- a sort that is kept at the place of a name
+pub name_has : (items : List Declaration) (names : List (List ℕ × Declared)) (table : Entries) → IsTable items names table → (place : ℕ) (s : Sort) → Some s ≡ sort_in table.sorts place → (e : SortExpr) → IsNameOf items place e → Resolves items e s
+name_has items names table t place s is e n =
+    let o = sort_at_place items t.bound place in
+    (suc t.bound, name_means items place e n t.bound ∙ (small_some o (extent_of o) refl s (is ∙ t.sorts t.bound place (omega arith))).0)
+
+-- where none is kept at the place of a name, there is a fault
+pub name_has_not : (items : List Declaration) (names : List (List ℕ × Declared)) (table : Entries) → IsTable items names table → (place : ℕ) → None ≡ sort_in table.sorts place → (e : SortExpr) → IsNameOf items place e
+    → (f : Fault) × (StandsInSort items e f ⊎ StandsBesides items f)
+name_has_not items names table t place is e n = by (extent_of (sort_at_place items t.bound place)) refl
+  where
+    by : (x : Extent) → extent_of (sort_at_place items t.bound place) ≡ x → (f : Fault) × (StandsInSort items e f ⊎ StandsBesides items f)
+    by NoSort at = let blamed = t.blame n.0 place n.2 (t.extents t.bound place (omega arith) ∙ at) in (blamed.0, inr blamed.1)
+    by TooBig at =
+        let big = big_told (sort_at_place items t.bound place) at in
+        let f = fault_at reasons.SortTooBig e.at (element_name e) in
+        (f, inl (e, itself e e refl, sort_too_big e f (big.0, (suc t.bound, name_means items place e n t.bound ∙ big.1), big.2) refl))
+    by (Fits d k) at =
+        let fits = fits_told (sort_at_place items t.bound place) d k at in
+        let bad : None ≡ Some fits.sort = is ∙ t.sorts t.bound place (omega arith) ∙ ap (λ x. within x (sort_at_place items t.bound place)) at ∙ fits.is in
+        absurd cc

@@ -60,6 +60,10 @@ pub data StandsAtSort (items : List Declaration) : SortExpr → Fault → Type 0
 abbrev pub StandsInSort : List Declaration → SortExpr → Fault → Type 0
 StandsInSort items e f = (x : SortExpr) × IsSortPart e x × StandsAtSort items x f
 
+-- the expression is the name of the declaration at this place
+abbrev pub IsNameOf : List Declaration → ℕ → SortExpr → Type 0
+IsNameOf items place e = (name : List ℕ) × (e.node ≡ nodes.User name) × (sort_named items name ≡ Some place)
+
 -- the sort expression of a declaration
 abbrev pub expr_of : Declaration → Option SortExpr
 expr_of (declarations.Named id name (bodies.Plain e) at) = Some e

@@ -5,6 +5,7 @@ mod build;
 mod cycles;
 mod extent;
 mod faults;
+pub mod laws;
 mod links;
 mod resolve;
 mod table;

@@ -39,6 +39,14 @@ impl Model for Table {
 }
 
 impl Table {
+    ghost use Rattle.std.specs.Prelude.{◌⊎◌, List};
+    ghost use Rattle.pn_faults.specs.declared.fault.Fault.{Fault};
+    ghost use Rattle.pn_names.specs.declared.Declared.{Declared};
+    ghost use Rattle.pn_resolve.specs.Meaning.{Resolves};
+    ghost use Rattle.pn_resolve.specs.Standing.{IsNameOf, StandsBesides, StandsInSort};
+    ghost use Rattle.pn_syntax.specs.declared.sort_expr.SortExpr.{SortExpr};
+    ghost use Rattle.pn_values.specs.declared.sort.Sort.{Sort};
+
     /// The table of these declarations. Each `namedsort` is resolved once, behind those that it
     /// names, so the time is linear in the declarations and in the nodes of the sorts that keep
     /// within the limits.
@@ -63,6 +71,22 @@ impl Table {
             )?;
         }
         Ok(Table { extents, sorts })
+    }
+
+    /// The sort that the declaration at this place gives its name, where that sort keeps within the
+    /// limits. An expression that is this name has it; where there is none, the expression or the
+    /// declarations have a fault.
+    pub fn named(&self, place: u32) -> Option<&Sort>
+        ensures kept { option_copied result ≡ sort_in self.now.sorts place }
+        ensures some { (sort : Sort) → option_copied result ≡ Some sort → (items : List Declaration) (names : List (List ℕ × Declared)) → IsTable items names self.now
+            → (e : SortExpr) → IsNameOf items place e → Resolves items e sort }
+        ensures none { option_copied result ≡ None → (items : List Declaration) (names : List (List ℕ × Declared)) → IsTable items names self.now
+            → (e : SortExpr) → IsNameOf items place e → (f : Fault) × (StandsInSort items e f ⊎ StandsBesides items f) }
+    {
+        match self.sorts.get(place as usize) {
+            Some(sort) => sort.as_ref(),
+            None => None,
+        }
     }
 }
 

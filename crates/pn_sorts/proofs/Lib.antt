@@ -1,3 +1,4 @@
+pub mod MemberLemmas
 pub mod NameLemmas
 pub mod TableLemmas
 pub mod SettleLemmas

@@ -13,7 +13,9 @@ use Rattle.pn_syntax.specs.declared.sort_expr.SortExpr.{SortExpr}
 use Rattle.pn_values.specs.Sizes.{depth_of, depth_step, nodes_of, nodes_step}
 use Rattle.pn_partitions.specs.Partitions.{IsPartTable, Splits, is_splittable, is_splittable_layer}
 use Rattle.pn_resolve.specs.Meaning.{Resolves}
-use Rattle.pn_resolve.specs.Standing.{HasEmptyRange, IsBig, at_of_constant, base_of, elements_of, expr_of}
+use Rattle.pn_resolve.specs.Standing.{itself, unknown_sort, HasEmptyRange, IsBig, IsNameOf, at_of_constant, base_of, elements_of, expr_of}
+use Rattle.pn_sorts.specs.Kept.{asked_of, sort_of_kept}
+use Rattle.pn_sorts.specs.declared.kept.Kept.{Kept}
 use Rattle.pn_sorts.specs.Standing.{IsBadPartition}
 use Rattle.pn_faults.specs.declared.fault.Fault.{Fault}
 use Rattle.pn_faults.specs.Least.{lower}
@@ -24,7 +26,7 @@ use Rattle.pn_faults.specs.Walks.{KeepsLeast}
 use Rattle.pn_resolve.specs.Tables.{IsExtent}
 use Rattle.pn_resolve.specs.declared.extent.Extent.{Extent}
 use Rattle.pn_resolve.specs.declared.extent.Extent.TheVariants.{NoSort, TooBig, Fits}
-use Rattle.pn_sorts.specs.Settling.{AreSettled, IsKnown, IsBadFault, IsBadIn, IsBadlyDivided, IsSortEntry, IsParting, IsPartingTable, IsTableEntry, ListEmptyRange}
+use Rattle.pn_sorts.specs.Settling.{AreSettled, IsKnown, IsBadFault, IsBadIn, IsBadlyDivided, IsSortEntry, IsSortEntryIn, IsParting, IsPartingTable, IsTableEntry, ListEmptyRange}
 use Rattle.pn_faults.specs.Order.{fault_at}
 use Rattle.pn_faults.specs.declared.reason.Reason.TheVariants as reasons
 use Rattle.pn_names.specs.Names.{at_of, constant_ids, element_id, id_of}
@@ -35,13 +37,16 @@ use Rattle.pn_sorts.specs.Keeping.{HasSort, HasTable, PartsKeep, IsResolved}
 use Rattle.pn_faults.specs.declared.fault.Refusal.{Refusal}
 use Rattle.pn_faults.specs.declared.fault.Refusal.TheVariants as refusals
 use Rattle.pn_names.specs.declared.Declared.{Declared}
-use Rattle.pn_names.specs.Names.{AreNumbered, names_of, variable_places_of, widths_of}
+use Rattle.pn_ids.specs.Names.{named_in}
+use Rattle.pn_names.specs.Names.{AreNumbered, names_of, sort_place, variable_places_of, widths_of}
+use Rattle.pn_syntax.specs.declared.sort_expr.SortNode.TheVariants as nodes
+use Rattle.std.specs.Option.{option_and_then}
 use Rattle.pn_resolve.specs.Tables.{Entries, IsTable}
 use Rattle.pn_names.proofs.DeclaredLemmas.{slice_get_at, slice_get_left}
 use Rattle.pn_syntax.specs.declared.declaration.Declaration.TheVariants as declarations
 use Rattle.pn_sorts.specs.Standing.{IsFaultless, Stands}
 use Rattle.pn_sorts.specs.Standing.Stands.{besides, bad_partition}
-use Rattle.pn_resolve.specs.Standing.StandsBesides.{constant_range}
+use Rattle.pn_resolve.specs.Standing.StandsBesides.{constant_range, in_sort}
 use Rattle.pn_sorts.specs.declared.settle.Parting.TheVariants as partings
 
 single : {A : Type 0} (x y : A) → Contains (y ∷ []) x → x ≡ y
@@ -144,9 +149,33 @@ partition_table items d e elements id at base None is there entry (inr (inl empt
 partition_table items d e elements id at None None is there entry (inr (inr none)) = entry
 partition_table items d e elements id at (Some s) None is there entry (inr (inr none)) = absurd (none s entry)
 
+-- a name, by the table of names
+pub is_name : (items : List Declaration) (names : List (List ℕ × Declared)) (table : Entries) (e : SortExpr) (name : List ℕ) (place : ℕ) → IsTable items names table → e.node ≡ nodes.User name
+    → option_and_then sort_place (named_in names name) ≡ Some place → IsNameOf items place e
+is_name items names table e name place t node is = (name, node, ap (λ n. option_and_then sort_place (named_in n name)) (sym t.are_names) ∙ is)
+
+-- a name that is not there
+pub is_no_name : (items : List Declaration) (names : List (List ℕ × Declared)) (table : Entries) (e : SortExpr) (name : List ℕ) → IsTable items names table → e.node ≡ nodes.User name
+    → option_and_then sort_place (named_in names name) ≡ None → IsSortEntryIn items e None
+is_no_name items names table e name t node is =
+    let f = fault_at reasons.UnknownSort e.at name in
+    (f, inl (e, itself e e refl, unknown_sort e f name node (ap (λ n. option_and_then sort_place (named_in n name)) (sym t.are_names) ∙ is) refl))
+
+asked_is_expr : (d : Declaration) (e : SortExpr) → asked_of d ≡ Some e → expr_of d ≡ Some e
+asked_is_expr (declarations.Named id name body at) e h = cc
+asked_is_expr (declarations.Variable id name sort at) e h = h
+asked_is_expr (declarations.Partition id name sort elements at) e h = h
+
+entry_stands : (items : List Declaration) (d : Declaration) (e : SortExpr) (o : Option Sort) → Contains items d → expr_of d ≡ Some e → IsSortEntryIn items e o → IsSortEntry items e o
+entry_stands items d e None there is (f, inl inside) = (f, besides f (in_sort f d e there is inside))
+entry_stands items d e None there is (f, inr beside) = (f, besides f beside)
+entry_stands items d e (Some s) there is entry = entry
+
 -- the sort of an expression, by the expression that the declaration has
-pub entry_of : (items : List Declaration) (d : Declaration) (e x : SortExpr) (o : Option Sort) → expr_of d ≡ Some x → expr_of d ≡ Some e → IsSortEntry items x o → IsSortEntry items e o
-entry_of items d e x o is has entry = subst (λ y. IsSortEntry items y o) (same_some x e (sym is ∙ has)) entry
+pub entry_of : (items : List Declaration) (d : Declaration) (e x : SortExpr) (o : Option Sort) → Contains items d → asked_of d ≡ Some x → asked_of d ≡ Some e → IsSortEntryIn items x o → IsSortEntry items e o
+entry_of items d e x o there is has entry =
+    let same : x ≡ e = same_some x e (sym is ∙ has) in
+    entry_stands items d e o there (asked_is_expr d e has) (subst (λ y. IsSortEntryIn items y o) same entry)
 
 few_parts : (d : Declaration) → length (constant_ids d) < 2 ^ 32 → length (elements_of d) < 2 ^ 32
 few_parts (declarations.Named id name body at) few = omega arith
@@ -180,16 +209,16 @@ either_place (suc k) zero small = absurd (omega (arith, small))
 either_place (suc k) (suc i) small = elim (either_place k i (omega (arith, small))) [ inl a ↦ inl (omega (arith, a)) | inr b ↦ inr (ap suc b) ]
 
 -- one more declaration is settled
-pub settled_more : (items : List Declaration) (i : ℕ) (item : Declaration) (sorts new_sorts : List (Option Sort)) (tables new_tables : List (Option (List ℕ))) (s : Option Sort) (t : Option (List ℕ)) → AreSettled items i sorts tables
+pub settled_more : (items : List Declaration) (named : List (Option Sort)) (i : ℕ) (item : Declaration) (sorts new_sorts : List Kept) (tables new_tables : List (Option (List ℕ))) (s : Kept) (t : Option (List ℕ)) → AreSettled items named i sorts tables
     → i < length items → item ≡ get_or items i item → new_sorts ≡ sorts ++ s ∷ [] → new_tables ≡ tables ++ t ∷ []
-    → ((e : SortExpr) → expr_of item ≡ Some e → IsSortEntry items e s) → ((e : SortExpr) → base_of item ≡ Some e → IsTableEntry items e (elements_of item) t) → AreSettled items (i + 1) new_sorts new_tables
-settled_more items i item sorts new_sorts tables new_tables s t so_far small at more_sorts more_tables own own_table = record {
+    → ((e : SortExpr) → asked_of item ≡ Some e → IsSortEntry items e (sort_of_kept named s)) → ((e : SortExpr) → base_of item ≡ Some e → IsTableEntry items e (elements_of item) t) → AreSettled items named (i + 1) new_sorts new_tables
+settled_more items named i item sorts new_sorts tables new_tables s t so_far small at more_sorts more_tables own own_table = record {
   sorts_to = one_longer sorts new_sorts s i so_far.sorts_to more_sorts;
   tables_to = one_longer tables new_tables t i so_far.tables_to more_tables;
   each = λ k d e within there has. elim (either_place k i within) [
     | inl before ↦ let old = so_far.each k d e before there has in (old.0, still_stands sorts new_sorts s k old.0 more_sorts old.1, old.2)
     | inr here ↦ let same = at_place items i item item d small at (ap (slice_get items) (sym here) ∙ there) in
-        (s, ap (slice_get new_sorts) here ∙ last_stands sorts new_sorts s i so_far.sorts_to more_sorts, own e (ap expr_of (sym same) ∙ has))
+        (s, ap (slice_get new_sorts) here ∙ last_stands sorts new_sorts s i so_far.sorts_to more_sorts, own e (ap asked_of (sym same) ∙ has))
   ];
   split = λ k d e within there has. elim (either_place k i within) [
     | inl before ↦ let old = so_far.split k d e before there has in (old.0, still_stands tables new_tables t k old.0 more_tables old.1, old.2)
@@ -217,16 +246,16 @@ least_more items i item old new small at least keeps = subst (IsLeastOf (IsKnown
     ]
 
 -- where the declarations have no fault, what is settled is all that is wanted
-pub all_resolved : (items : List Declaration) (sorts : List (Option Sort)) (tables : List (Option (List ℕ))) → AreSettled items (length items) sorts tables → IsResolved items sorts tables
-all_resolved items sorts tables settled = record {
-  each = λ place d e faultless there has. let got = settled.each place d e (slice_get_within items place d there) there has in sort_of place e faultless got.0 got.1 got.2;
+pub all_resolved : (items : List Declaration) (named : List (Option Sort)) (sorts : List Kept) (tables : List (Option (List ℕ))) → AreSettled items named (length items) sorts tables → IsResolved items named sorts tables
+all_resolved items named sorts tables settled = record {
+  each = λ place d e faultless there has. let got = settled.each place d e (slice_get_within items place d there) there has in sort_of place e faultless got.0 got.1 (sort_of_kept named got.0) refl got.2;
   split = λ place d e base faultless there has resolves.
       let got = settled.split place d e (slice_get_within items place d there) there has in table_of place d e base faultless resolves got.0 got.1 got.2;
 }
   where
-    sort_of : (place : ℕ) (e : SortExpr) → IsFaultless items → (o : Option Sort) → slice_get sorts place ≡ Some o → IsSortEntry items e o → HasSort items sorts place e
-    sort_of place e faultless None at entry = absurd (faultless entry.0 entry.1)
-    sort_of place e faultless (Some s) at entry = record { sort = s; stands = at; resolves = entry }
+    sort_of : (place : ℕ) (e : SortExpr) → IsFaultless items → (k : Kept) → slice_get sorts place ≡ Some k → (o : Option Sort) → sort_of_kept named k ≡ o → IsSortEntry items e o → HasSort items named sorts place e
+    sort_of place e faultless k at None is entry = absurd (faultless entry.0 entry.1)
+    sort_of place e faultless k at (Some s) is entry = record { sort = s; stands = ap (option_and_then (sort_of_kept named)) at ∙ is; resolves = entry }
 
     table_of : (place : ℕ) (d : Declaration) (e : SortExpr) (base : Sort) → IsFaultless items → Resolves items e base → (o : Option (List ℕ)) → slice_get tables place ≡ Some o → IsTableEntry items e (elements_of d) o
         → HasTable items tables place d base
@@ -262,13 +291,13 @@ pub same_error : (r s : Refusal) → refused_with r ≡ refused_with s → r ≡
 same_error r s e = cc
 
 -- what the parts keep, from what was settled
-pub all_kept : (items kept : List Declaration) (index : List (List ℕ × Declared)) (table : Entries) (widths variables : List ℕ) (sorts : List (Option Sort)) (tables : List (Option (List ℕ))) (fault : Option Fault) → kept ≡ items
-    → AreNumbered items → index ≡ names_of items → widths ≡ widths_of items → variables ≡ variable_places_of items → IsTable items index table → AreSettled items (length items) sorts tables
+pub all_kept : (items kept : List Declaration) (index : List (List ℕ × Declared)) (table : Entries) (widths variables : List ℕ) (sorts : List Kept) (tables : List (Option (List ℕ))) (fault : Option Fault) → kept ≡ items
+    → AreNumbered items → index ≡ names_of items → widths ≡ widths_of items → variables ≡ variable_places_of items → IsTable items index table → AreSettled items table.sorts (length items) sorts tables
     → IsLeastOf (IsKnown items (length items)) fault → PartsKeep kept index table widths variables sorts tables fault
 all_kept items kept index table widths variables sorts tables fault same numbered names counts places entries settled least =
     subst (λ l. PartsKeep l index table widths variables sorts tables fault) (sym same) (record {
       indexed = record { numbered = numbered; names = names; counts = counts; places = places };
       entries = entries;
-      resolved = all_resolved items sorts tables settled;
+      resolved = all_resolved items table.sorts sorts tables settled;
       least = all_known items fault least;
     })

@@ -11,7 +11,9 @@ use Rattle.pn_names.specs.Names.{AreNumbered, names_of, widths_of, variable_plac
 use Rattle.pn_partitions.specs.Partitions.{IsPartTable, Splits}
 use Rattle.pn_resolve.specs.Meaning.{Resolves}
 use Rattle.pn_resolve.specs.Meaning.{HasNoSort}
-use Rattle.pn_resolve.specs.Standing.{StandsInSort, base_of, elements_of, expr_of}
+use Rattle.pn_resolve.specs.Standing.{StandsInSort, base_of, elements_of}
+use Rattle.pn_sorts.specs.Kept.{asked_of, sort_kept}
+use Rattle.pn_sorts.specs.declared.kept.Kept.{Kept}
 use Rattle.pn_sorts.specs.Standing.{IsFaultless, Stands}
 use Rattle.pn_resolve.specs.Tables.{Entries, IsTable}
 
@@ -22,10 +24,10 @@ pub record IsIndexed (items : List Declaration) (index : List (List ℕ × Decla
   pub counts : widths ≡ widths_of items
   pub places : variables ≡ variable_places_of items
 
--- the sort of the declaration at this place stands in the list
-pub record HasSort (items : List Declaration) (sorts : List (Option Sort)) (place : ℕ) (e : SortExpr) : Type 0 where
+-- the sort of the declaration at this place is kept
+pub record HasSort (items : List Declaration) (named : List (Option Sort)) (sorts : List Kept) (place : ℕ) (e : SortExpr) : Type 0 where
   pub sort : Sort
-  pub stands : slice_get sorts place ≡ Some (Some sort)
+  pub stands : sort_kept named sorts place ≡ Some sort
   pub resolves : Resolves items e sort
 
 -- the table of the partition at this place stands in the list
@@ -35,16 +37,16 @@ pub record HasTable (items : List Declaration) (tables : List (Option (List ℕ)
   pub splits : Splits items base (elements_of d)
   pub parts : IsPartTable items base (elements_of d) table
 
--- where the declarations have no fault, the sort of each and the table of each partition are there
-pub record IsResolved (items : List Declaration) (sorts : List (Option Sort)) (tables : List (Option (List ℕ))) : Type 0 where
-  pub each : (place : ℕ) (d : Declaration) (e : SortExpr) → IsFaultless items → slice_get items place ≡ Some d → expr_of d ≡ Some e → HasSort items sorts place e
+-- where the declarations have no fault, the sorts of variables, the base sorts of partitions and the table of each are there
+pub record IsResolved (items : List Declaration) (named : List (Option Sort)) (sorts : List Kept) (tables : List (Option (List ℕ))) : Type 0 where
+  pub each : (place : ℕ) (d : Declaration) (e : SortExpr) → IsFaultless items → slice_get items place ≡ Some d → asked_of d ≡ Some e → HasSort items named sorts place e
   pub split : (place : ℕ) (d : Declaration) (e : SortExpr) (base : Sort) → IsFaultless items → slice_get items place ≡ Some d → base_of d ≡ Some e → Resolves items e base → HasTable items tables place d base
 
 -- what the parts keep
-pub record PartsKeep (items : List Declaration) (index : List (List ℕ × Declared)) (table : Entries) (widths variables : List ℕ) (sorts : List (Option Sort)) (tables : List (Option (List ℕ))) (fault : Option Fault) : Type 0 where
+pub record PartsKeep (items : List Declaration) (index : List (List ℕ × Declared)) (table : Entries) (widths variables : List ℕ) (sorts : List Kept) (tables : List (Option (List ℕ))) (fault : Option Fault) : Type 0 where
   pub indexed : IsIndexed items index widths variables
   pub entries : IsTable items index table
-  pub resolved : IsResolved items sorts tables
+  pub resolved : IsResolved items table.sorts sorts tables
   pub least : IsLeastOf (Stands items) fault
 
 -- the fault for which an expression is refused: the least one in it; or, where none is in it and it has no sort, the least one of the declarations

@@ -1,4 +1,5 @@
 pub mod Standing
 pub mod Lookups
+pub mod Kept
 pub mod Keeping
 pub mod Settling

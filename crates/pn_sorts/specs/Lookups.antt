@@ -11,7 +11,8 @@ use Rattle.pn_values.specs.declared.sort.Sort.{Sort}
 use Rattle.pn_values.specs.declared.sort.Sort.TheVariants as sorts
 use Rattle.pn_syntax.specs.declared.sort_expr.SortExpr.{SortExpr}
 use Rattle.pn_values.specs.declared.value.Value.{Value}
-use Rattle.pn_names.specs.Names.{Variable, variables_of}
+use Rattle.pn_values.specs.declared.value.Value.TheVariants as values
+use Rattle.pn_names.specs.Names.{IsConstant, Variable, variables_of}
 use Rattle.pn_partitions.specs.Partitions.{Lists}
 use Rattle.pn_resolve.specs.Meaning.{Resolves}
 use Rattle.pn_resolve.specs.Standing.{base_of, elements_of}
@@ -30,6 +31,13 @@ sort_at place (declarations.Partition id name sort elements at) = Some (sorts.Pa
 -- the enumeration or partition that declares a constant
 abbrev pub sort_of_constant : List Declaration → ConstantRef → Option Sort
 sort_of_constant items c = option_and_then (sort_at c.declaration) (slice_get items c.declaration)
+
+-- the value is a constant of the declaration at this place, which is an enumeration or partition that has this sort
+pub record IsDeclaredConstant (items : List Declaration) (place : ℕ) (sort : Sort) (value : Value) : Type 0 where
+  pub index : ℕ
+  pub is : value ≡ values.Const index
+  pub declared : IsConstant items (record { declaration = place; index = index })
+  pub of_sort : sort_of_constant items (record { declaration = place; index = index }) ≡ Some sort
 
 -- the base sort of the partition at this place, as it is written
 abbrev pub base_expr : List Declaration → ℕ → Option SortExpr

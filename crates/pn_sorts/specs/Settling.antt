@@ -12,7 +12,9 @@ use Rattle.pn_syntax.specs.declared.sort_expr.SortExpr.{SortExpr}
 use Rattle.pn_names.specs.Names.{at_of, id_of}
 use Rattle.pn_partitions.specs.Partitions.{IsPartTable, Splits}
 use Rattle.pn_resolve.specs.Meaning.{Resolves}
-use Rattle.pn_resolve.specs.Standing.{HasEmptyRange, StandsBesides, base_of, elements_of, expr_of}
+use Rattle.pn_resolve.specs.Standing.{HasEmptyRange, StandsBesides, StandsInSort, base_of, elements_of}
+use Rattle.pn_sorts.specs.Kept.{asked_of, sort_of_kept}
+use Rattle.pn_sorts.specs.declared.kept.Kept.{Kept}
 use Rattle.pn_sorts.specs.Standing.{IsBadPartition, Stands}
 use Rattle.pn_sorts.specs.declared.settle.Parting.{Parting}
 use Rattle.pn_sorts.specs.declared.settle.Parting.TheVariants as partings
@@ -49,6 +51,11 @@ abbrev pub IsSortEntry : List Declaration → SortExpr → Option Sort → Type 
 IsSortEntry items e None = (f : Fault) × Stands items f
 IsSortEntry items e (Some sort) = Resolves items e sort
 
+-- the sort of an expression, or none where it or the declarations have a fault
+abbrev pub IsSortEntryIn : List Declaration → SortExpr → Option Sort → Type 0
+IsSortEntryIn items e None = (f : Fault) × (StandsInSort items e f ⊎ StandsBesides items f)
+IsSortEntryIn items e (Some sort) = Resolves items e sort
+
 -- the table of a partition, or none where some fault stands
 abbrev pub IsTableEntry : List Declaration → SortExpr → List PartElement → Option (List ℕ) → Type 0
 IsTableEntry items e elements None = (f : Fault) × Stands items f
@@ -63,8 +70,8 @@ abbrev pub IsKnown : List Declaration → ℕ → Fault → Type 0
 IsKnown items place f = StandsBesides items f ⊎ IsBadBefore items place f
 
 -- what is settled of the declarations before this place
-pub record AreSettled (items : List Declaration) (place : ℕ) (sorts : List (Option Sort)) (tables : List (Option (List ℕ))) : Type 0 where
+pub record AreSettled (items : List Declaration) (named : List (Option Sort)) (place : ℕ) (sorts : List Kept) (tables : List (Option (List ℕ))) : Type 0 where
   pub sorts_to : length sorts ≡ place
   pub tables_to : length tables ≡ place
-  pub each : (k : ℕ) (d : Declaration) (e : SortExpr) → k < place → slice_get items k ≡ Some d → expr_of d ≡ Some e → (o : Option Sort) × (slice_get sorts k ≡ Some o) × IsSortEntry items e o
+  pub each : (k : ℕ) (d : Declaration) (e : SortExpr) → k < place → slice_get items k ≡ Some d → asked_of d ≡ Some e → (o : Kept) × (slice_get sorts k ≡ Some o) × IsSortEntry items e (sort_of_kept named o)
   pub split : (k : ℕ) (d : Declaration) (e : SortExpr) → k < place → slice_get items k ≡ Some d → base_of d ≡ Some e → (o : Option (List ℕ)) × (slice_get tables k ≡ Some o) × IsTableEntry items e (elements_of d) o

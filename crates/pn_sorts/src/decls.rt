@@ -4,7 +4,8 @@ ghost use Rattle.std.specs.Prelude.{◌≡◌, IfOk};
 ghost use Rattle.pn_faults.specs.declared.fault.Fault.{Fault};
 ghost use Rattle.pn_faults.specs.declared.fault.Refusal.{Refusal};
 
-use crate::lookups::{constant_sort, entry, is_cyclic, place_of, sort_at};
+use crate::kept::{Kept, sort_at};
+use crate::lookups::{constant_sort, entry, is_cyclic, place_of};
 use crate::settle::settle;
 use pn_carriers::{has_value, nth, ordinal, size};
 use pn_faults::{Fault, Refusal};
@@ -27,8 +28,9 @@ pub struct Decls {
     table: Table,
     widths: Vec<u32>,
     variables: Vec<u32>,
-    /// The sort of each declaration's expression, where no fault stands.
-    sorts: Vec<Option<Sort>>,
+    /// The sorts of variables and the base sorts of partitions, where no fault stands. What is the
+    /// sort of a name stands in `table` alone.
+    sorts: Vec<Kept>,
     /// For each partition the elements that list the values of its base sort, in order, where no
     /// fault stands.
     tables: Vec<Option<Items<u32>>>,
@@ -166,7 +168,7 @@ impl Decls {
         ensures { IsVariableSort self.now v result.now }
     {
         let place = place_of(&self.variables, v);
-        sort_at(&self.sorts, place)
+        sort_at(&self.table, &self.sorts, place)
     }
 
     /// The base sort of the partition at this place.
@@ -175,7 +177,7 @@ impl Decls {
         requires partition { IsSome (base_expr self.now partition) }
         ensures { IsBaseSort self.now partition result.now }
     {
-        sort_at(&self.sorts, partition)
+        sort_at(&self.table, &self.sorts, partition)
     }
 
     /// The element of the partition at this place that lists a value of its base sort.
@@ -185,7 +187,7 @@ impl Decls {
         requires member { (base : Sort) → IsBaseSort self.now partition base → IsMember (widths_of self.now) value.now base }
         ensures { IsPartOf self.now partition value.now result }
     {
-        let base = sort_at(&self.sorts, partition);
+        let base = sort_at(&self.table, &self.sorts, partition);
         let place = ordinal(&self.widths, base, value);
         entry(&self.tables, partition, place)
     }

@@ -3,6 +3,8 @@
 #![tactic(auto)]
 
 mod decls;
+mod kept;
+pub mod laws;
 mod lookups;
 mod settle;
 
@@ -12,10 +14,3 @@ pub use pn_names::{are_distinct, are_numbered};
 pub use pn_resolve::{MAX_DEPTH, MAX_NODES};
 pub use pn_syntax::{ConstExpr, Constant, Declaration, PartElement, SortBody, SortExpr, SortNode};
 pub use pn_values::{ConstantRef, Size, Sort, Value};
-
-/// The laws that walks over faults cite.
-pub mod laws {
-    pub use pn_faults::laws::{
-        faults_are_ordered, least_is_first, least_of_each, least_of_parts, least_of_two,
-    };
-}

@@ -2,7 +2,6 @@
 
 ghost use Rattle.std.specs.Prelude.{◌≡◌, ◌<◌, ℕ, List, IsSome, Some, length, slice_get};
 ghost use Rattle.std.specs.Option.{option_and_then};
-ghost use Rattle.pn_values.specs.declared.sort.Sort.{Sort};
 ghost use Rattle.pn_sorts.specs.Lookups.{is_cyclic, is_cyclic_declaration, sort_at, sort_of_constant};
 
 use pn_syntax::{Declaration, SortBody};
@@ -64,17 +63,6 @@ pub(crate) fn place_of(variables: &[u32], v: u32) -> u32
     ensures { slice_get variables.now v ≡ Some result }
 {
     variables[v as usize]
-}
-
-/// The sort that stands at a place.
-pub(crate) fn sort_at(sorts: &[Option<Sort>], place: u32) -> &Sort
-    requires { (sort : Sort) × (slice_get sorts.now place ≡ Some (Some sort)) }
-    ensures { slice_get sorts.now place ≡ Some (Some result.now) }
-{
-    match &sorts[place as usize] {
-        Some(sort) => sort,
-        None => unreachable!(),
-    }
 }
 
 /// The entry of the table at a place.

@@ -3,20 +3,22 @@
 ghost use Rattle.std.specs.Prelude.{◌≡◌, ◌↔◌, ◌<◌, ◌^◌, List, Contains, IfOk, IsOk, IsTrue, OnOk, length, Some};
 ghost use Rattle.pn_faults.specs.Standing.{IsLeastOf};
 ghost use Rattle.pn_names.specs.Names.{AreNumbered, names_of};
-ghost use Rattle.pn_resolve.specs.Standing.{HasEmptyRange, base_of, elements_of, expr_of};
+ghost use Rattle.pn_resolve.specs.Standing.{HasEmptyRange, base_of, elements_of};
 ghost use Rattle.pn_faults.specs.Walks.{KeepsLeast};
 ghost use Rattle.pn_resolve.specs.Tables.{IsTable};
-ghost use Rattle.pn_sorts.specs.Settling.{AreSettled, IsBadFault, IsBadIn, IsSortEntry, IsKnown, IsParting, IsPartingTable, IsTableEntry, ListEmptyRange};
+ghost use Rattle.pn_sorts.specs.Kept.{asked_of, sort_of_kept};
+ghost use Rattle.pn_sorts.specs.Settling.{AreSettled, IsBadFault, IsBadIn, IsSortEntry, IsSortEntryIn, IsKnown, IsParting, IsPartingTable, IsTableEntry, ListEmptyRange};
 ghost use Rattle.pn_syntax.specs.declared.declaration.ConstExpr.{ConstExpr};
 ghost use Rattle.pn_syntax.specs.declared.declaration.Declaration.{Declaration};
 ghost use Rattle.pn_syntax.specs.declared.sort_expr.SortExpr.{SortExpr};
+ghost use Rattle.pn_syntax.specs.declared.sort_expr.SortNode.TheVariants as nodes;
 
+use crate::kept::Kept;
 use pn_faults::{Fault, Reason, keep_least_at};
 use pn_names::Index;
 use pn_partitions::part_table;
 use pn_resolve::{Extent, ResolveFault, Table, least_fault_of};
-use pn_syntax::{ConstExpr, Declaration, PartElement, SortBody, SortExpr};
-use pn_values::Sort;
+use pn_syntax::{ConstExpr, Declaration, PartElement, SortExpr, SortNode};
 use sqlite_items::Items;
 use std::alloc::{AllocError, Global};
 
@@ -90,20 +92,44 @@ fn divided(
     }
 }
 
-/// The sort of an expression, none where the declarations have a fault for which there is none.
-fn entry(
+/// Where the sort of a name is kept, nowhere where the declarations have a fault for which there is
+/// none.
+fn named_entry(index: &Index, table: &Table, name: &str) -> Kept
+    ensures { (items : List Declaration) (e : SortExpr) → IsTable items index.now table.now → e.node ≡ nodes.User name.now → IsSortEntryIn items e (sort_of_kept table.now.sorts result) }
+{
+    match index.sort_place(name) {
+        Some(place) => match table.named(place) {
+            Some(_) => Kept::Named(place),
+            None => Kept::Nowhere,
+        },
+        None => Kept::Nowhere,
+    }
+}
+
+/// The sort of an expression, nowhere where the declarations have a fault for which there is none.
+fn own_entry(
     alloc: Global,
     index: &Index,
     table: &Table,
     expr: &SortExpr,
-) -> Result<Option<Sort>, AllocError>
-    ensures { IfOk result (λ o. (items : List Declaration) → IsTable items index.now table.now → (d : Declaration) → Contains items d → expr_of d ≡ Some expr.now → IsSortEntry items expr.now o) }
+) -> Result<Kept, AllocError>
+    ensures { IfOk result (λ k. (items : List Declaration) → IsTable items index.now table.now → IsSortEntryIn items expr.now (sort_of_kept table.now.sorts k)) }
 {
     match table.resolve(alloc, index, expr) {
-        Ok(sort) => Ok(Some(sort)),
+        Ok(sort) => Ok(Kept::Here(sort)),
         Err(ResolveFault::Memory(error)) => Err(error),
-        Err(ResolveFault::Fault(_)) => Ok(None),
-        Err(ResolveFault::Elsewhere) => Ok(None),
+        Err(ResolveFault::Fault(_)) => Ok(Kept::Nowhere),
+        Err(ResolveFault::Elsewhere) => Ok(Kept::Nowhere),
+    }
+}
+
+/// Where the sort of an expression is kept: that of a name isn't built anew.
+fn entry(alloc: Global, index: &Index, table: &Table, expr: &SortExpr) -> Result<Kept, AllocError>
+    ensures { IfOk result (λ k. (items : List Declaration) → IsTable items index.now table.now → IsSortEntryIn items expr.now (sort_of_kept table.now.sorts k)) }
+{
+    match &expr.node {
+        SortNode::User(name) => Ok(named_entry(index, table, name.as_str())),
+        _ => own_entry(alloc, index, table, expr),
     }
 }
 
@@ -135,8 +161,9 @@ fn settle_partition(
     }
 }
 
-/// The sort of a declaration's expression and the table of a partition, none where the declarations
-/// have a fault for which there is none. Keeps the least fault.
+/// Where the sort of a variable or the base sort of a partition is kept, and the table of a
+/// partition, none where the declarations have a fault for which there is none. Keeps the least
+/// fault.
 fn settle_item(
     alloc: Global,
     index: &Index,
@@ -144,20 +171,16 @@ fn settle_item(
     table: &Table,
     item: &Declaration,
     least: &mut Option<Fault>,
-) -> Result<(Option<Sort>, Option<Items<u32>>), AllocError>
+) -> Result<(Kept, Option<Items<u32>>), AllocError>
     requires table { IsTable items.now index.now table.now }
     requires few { length (elements_of item.now) < 2 ^ 32 }
     requires there { Contains items.now item.now }
-    ensures sort { IfOk result (λ r. (e : SortExpr) → expr_of item.now ≡ Some e → IsSortEntry items.now e r.0) }
+    ensures sort { IfOk result (λ r. (e : SortExpr) → asked_of item.now ≡ Some e → IsSortEntry items.now e (sort_of_kept table.now.sorts r.0)) }
     ensures table { IfOk result (λ r. (e : SortExpr) → base_of item.now ≡ Some e → IsTableEntry items.now e (elements_of item.now) r.1) }
     ensures least { IsOk result → KeepsLeast (IsBadIn items.now item.now) least.old least.new }
 {
     match item {
-        Declaration::Named { body, .. } => match body {
-            SortBody::Plain(sort) => Ok((entry(alloc, index, table, sort)?, None)),
-            SortBody::Finite(_) => Ok((None, None)),
-            SortBody::Cyclic(_) => Ok((None, None)),
-        },
+        Declaration::Named { .. } => Ok((Kept::Nowhere, None)),
         Declaration::Variable { sort, .. } => Ok((entry(alloc, index, table, sort)?, None)),
         Declaration::Partition {
             id,
@@ -187,7 +210,7 @@ fn settle_item(
 #[derive(Drop)]
 pub(crate) struct Settled {
     pub(crate) table: Table,
-    pub(crate) sorts: Vec<Option<Sort>>,
+    pub(crate) sorts: Vec<Kept>,
     pub(crate) tables: Vec<Option<Items<u32>>>,
     pub(crate) fault: Option<Fault>,
 }
@@ -198,15 +221,15 @@ fn settle_each(
     index: &Index,
     items: &[Declaration],
     table: &Table,
-    sorts: &mut Vec<Option<Sort>>,
+    sorts: &mut Vec<Kept>,
     tables: &mut Vec<Option<Items<u32>>>,
     least: &mut Option<Fault>,
 ) -> Result<(), AllocError>
     requires table { IsTable items.now index.now table.now }
     requires numbered { AreNumbered items.now }
-    requires settled { AreSettled items.now 0 sorts.old.items tables.old.items }
+    requires settled { AreSettled items.now table.now.sorts 0 sorts.old.items tables.old.items }
     requires least { IsLeastOf (IsKnown items.now 0) least.old }
-    ensures settled { OnOk result (AreSettled items.now (length items.now) sorts.new.items tables.new.items) }
+    ensures settled { OnOk result (AreSettled items.now table.now.sorts (length items.now) sorts.new.items tables.new.items) }
     ensures least { OnOk result (IsLeastOf (IsKnown items.now (length items.now)) least.new) }
 {
     for item in items {
@@ -226,7 +249,7 @@ pub(crate) fn settle(
     requires names { index.now ≡ names_of items.now }
     requires numbered { AreNumbered items.now }
     ensures table { IfOk result (λ s. IsTable items.now index.now s.table) }
-    ensures settled { IfOk result (λ s. AreSettled items.now (length items.now) s.sorts.items s.tables.items) }
+    ensures settled { IfOk result (λ s. AreSettled items.now s.table.sorts (length items.now) s.sorts.items s.tables.items) }
     ensures least { IfOk result (λ s. IsLeastOf (IsKnown items.now (length items.now)) s.fault) }
 {
     let table = Table::of(alloc, items, index)?;

@@ -105,107 +105,6 @@ fn texts_of(alloc: Global, values: &[Value]) -> Result<String, AllocError> {
     Ok(all)
 }
 
-/// The texts of the values of a finite sort, made by a plain recursion.
-#[cycle(carrier)]
-fn carrier_texts(alloc: Global, sort: &Sort) -> Result<Vec<String>, AllocError> {
-    match sort {
-        Sort::Dot => one_text(alloc, "dot"),
-        Sort::Bool => bool_texts(alloc),
-        Sort::Enumeration(n) => constant_texts(alloc, WIDTHS[*n as usize % 3]),
-        Sort::Partition(n) => constant_texts(alloc, WIDTHS[*n as usize % 3]),
-        Sort::Range { start, end } => number_texts(alloc, *start, *end),
-        Sort::Product(parts) => tuple_texts(alloc, parts.as_slice()),
-        _ => Ok(Vec::new(alloc)),
-    }
-}
-
-fn add_text(alloc: Global, texts: &mut Vec<String>, text: &str) -> Result<(), AllocError> {
-    texts.push(String::from_str(alloc, text)?)?;
-    Ok(())
-}
-
-fn one_text(alloc: Global, text: &str) -> Result<Vec<String>, AllocError> {
-    let mut texts = Vec::new(alloc);
-    add_text(alloc, &mut texts, text)?;
-    Ok(texts)
-}
-
-fn bool_texts(alloc: Global) -> Result<Vec<String>, AllocError> {
-    let mut texts = one_text(alloc, "false")?;
-    add_text(alloc, &mut texts, "true")?;
-    Ok(texts)
-}
-
-fn add_constants(alloc: Global, texts: &mut Vec<String>, width: u32) -> Result<(), AllocError> {
-    for constant in 0..width {
-        texts.push(format!(in alloc; "#{constant}")?)?;
-    }
-    Ok(())
-}
-
-fn constant_texts(alloc: Global, width: u32) -> Result<Vec<String>, AllocError> {
-    let mut texts = Vec::new(alloc);
-    add_constants(alloc, &mut texts, width)?;
-    Ok(texts)
-}
-
-fn add_numbers(
-    alloc: Global,
-    texts: &mut Vec<String>,
-    start: i64,
-    end: i64,
-) -> Result<(), AllocError> {
-    for number in start..=end {
-        texts.push(format!(in alloc; "{number}")?)?;
-    }
-    Ok(())
-}
-
-fn number_texts(alloc: Global, start: i64, end: i64) -> Result<Vec<String>, AllocError> {
-    let mut texts = Vec::new(alloc);
-    add_numbers(alloc, &mut texts, start, end)?;
-    Ok(texts)
-}
-
-#[cycle(carrier)]
-fn tuple_texts(alloc: Global, parts: &[Sort]) -> Result<Vec<String>, AllocError> {
-    let mut fronts = one_text(alloc, "")?;
-    for part in parts {
-        fronts = with_part(alloc, &fronts, part)?;
-    }
-    Ok(fronts)
-}
-
-#[cycle(carrier)]
-fn with_part(alloc: Global, fronts: &[String], part: &Sort) -> Result<Vec<String>, AllocError> {
-    let items = carrier_texts(alloc, part)?;
-    longer_texts(alloc, fronts, &items)
-}
-
-fn add_longer(
-    alloc: Global,
-    texts: &mut Vec<String>,
-    front: &str,
-    items: &[String],
-) -> Result<(), AllocError> {
-    for item in items {
-        texts.push(format!(in alloc; "{front}{item},")?)?;
-    }
-    Ok(())
-}
-
-fn longer_texts(
-    alloc: Global,
-    fronts: &[String],
-    items: &[String],
-) -> Result<Vec<String>, AllocError> {
-    let mut texts = Vec::new(alloc);
-    for front in fronts {
-        add_longer(alloc, &mut texts, front, items)?;
-    }
-    Ok(texts)
-}
-
 /// The place of the value at a place is that place.
 fn ordinal_of_nth(alloc: Global, widths: &[u32], sort: &Sort, k: u64) -> Result<u64, AllocError>
     requires finite { is_finite sort.now ≡ true }
@@ -232,10 +131,25 @@ fn nth_of_ordinal(
     nth(alloc, widths, sort, ordinal(widths, sort, value))
 }
 
-fn has_text(rt: &impl Abort, alloc: Global, value: &Value, want: &str) -> Result<(), Fail> {
+fn has_text(alloc: Global, value: &Value, want: &str) -> Result<bool, AllocError> {
     let text = text_of(alloc, value)?;
-    assert_eq!(rt; text.as_str(), want);
-    Ok(())
+    Ok(text.as_str() == want)
+}
+
+/// The value that is found again at the place of this value has this text.
+fn is_found_again(
+    alloc: Global,
+    widths: &[u32],
+    sort: &Sort,
+    value: &Value,
+    want: &str,
+) -> Result<bool, AllocError>
+    requires finite { is_finite sort.now ≡ true }
+    requires few { length (carrier widths.now sort.now) < 2 ^ 64 }
+    requires member { IsMember widths.now value.now sort.now }
+{
+    let again = nth_of_ordinal(alloc, widths, sort, value)?;
+    has_text(alloc, &again, want)
 }
 
 /// The value stands at the place `k`, and has this text.
@@ -253,12 +167,12 @@ fn stands_at(
     requires below { k < length (carrier widths.now sort.now) }
     requires member { IsMember widths.now value.now sort.now }
 {
-    has_text(rt, alloc, value, want)?;
     assert!(rt; has_value(widths, sort, value));
-    assert_eq!(rt; ordinal(widths, sort, value), k);
-    assert_eq!(rt; ordinal_of_nth(alloc, widths, sort, k)?, k);
-    let again = nth_of_ordinal(alloc, widths, sort, value)?;
-    has_text(rt, alloc, &again, want)
+    assert!(rt; ordinal(widths, sort, value) == k);
+    assert!(rt; ordinal_of_nth(alloc, widths, sort, k)? == k);
+    assert!(rt; has_text(alloc, value, want)?);
+    assert!(rt; is_found_again(alloc, widths, sort, value, want)?);
+    Ok(())
 }
 
 /// At the place `k` of a small finite sort stands the value with this text.
@@ -277,42 +191,86 @@ fn is_at(rt: &impl Abort, alloc: Global, sort: &Sort, k: u64, want: &str) -> Res
 }
 
 /// Each place of the sort has the value of the text that stands there, and gives it back.
-fn are_at(rt: &impl Abort, alloc: Global, sort: &Sort, want: &[String]) -> Result<(), Fail> {
-    assert_eq!(rt; size(&WIDTHS, sort), Size::Finite(want.len() as u128));
+fn are_at(rt: &impl Abort, alloc: Global, sort: &Sort, want: &[&str]) -> Result<(), Fail> {
+    assert!(rt; size(&WIDTHS, sort) == Size::Finite(want.len() as u128));
     for k in 0..want.len() {
-        is_at(rt, alloc, sort, k as u64, want[k].as_str())?;
+        is_at(rt, alloc, sort, k as u64, want[k])?;
     }
     Ok(())
 }
 
-/// Each place of the sort has the value that the plain recursion puts there, and gives it back.
-fn agrees(rt: &impl Abort, alloc: Global, sort: &Sort) -> Result<(), Fail> {
-    let want = carrier_texts(alloc, sort)?;
-    are_at(rt, alloc, sort, &want)
-}
-
 const PAIR: [Token; 3] = [Token::Product(2), Token::Truth, Token::Range(3, 5)];
 
-const FINITE: [&[Token]; 5] = [
-    &[Token::Product(2), Token::Truth, Token::Range(3, 5)],
-    &[
-        Token::Product(2),
-        Token::Product(2),
-        Token::Enumeration(0),
-        Token::Product(2),
-        Token::Range(-1, 1),
-        Token::Partition(2),
-        Token::Truth,
-    ],
-    &[Token::Product(0)],
-    &[Token::Product(2), Token::Dot, Token::Partition(1)],
-    &[Token::Range(5, 3)],
+/// Sorts, with their values in lexicographic order.
+const FINITE: [(&[Token], &[&str]); 5] = [
+    (
+        &[Token::Product(2), Token::Truth, Token::Range(3, 5)],
+        &[
+            "false,3,", "false,4,", "false,5,", "true,3,", "true,4,", "true,5,",
+        ],
+    ),
+    (
+        &[
+            Token::Product(2),
+            Token::Product(2),
+            Token::Enumeration(0),
+            Token::Product(2),
+            Token::Range(-1, 1),
+            Token::Partition(2),
+            Token::Truth,
+        ],
+        &[
+            "#0,-1,#0,,,false,",
+            "#0,-1,#0,,,true,",
+            "#0,-1,#1,,,false,",
+            "#0,-1,#1,,,true,",
+            "#0,0,#0,,,false,",
+            "#0,0,#0,,,true,",
+            "#0,0,#1,,,false,",
+            "#0,0,#1,,,true,",
+            "#0,1,#0,,,false,",
+            "#0,1,#0,,,true,",
+            "#0,1,#1,,,false,",
+            "#0,1,#1,,,true,",
+            "#1,-1,#0,,,false,",
+            "#1,-1,#0,,,true,",
+            "#1,-1,#1,,,false,",
+            "#1,-1,#1,,,true,",
+            "#1,0,#0,,,false,",
+            "#1,0,#0,,,true,",
+            "#1,0,#1,,,false,",
+            "#1,0,#1,,,true,",
+            "#1,1,#0,,,false,",
+            "#1,1,#0,,,true,",
+            "#1,1,#1,,,false,",
+            "#1,1,#1,,,true,",
+            "#2,-1,#0,,,false,",
+            "#2,-1,#0,,,true,",
+            "#2,-1,#1,,,false,",
+            "#2,-1,#1,,,true,",
+            "#2,0,#0,,,false,",
+            "#2,0,#0,,,true,",
+            "#2,0,#1,,,false,",
+            "#2,0,#1,,,true,",
+            "#2,1,#0,,,false,",
+            "#2,1,#0,,,true,",
+            "#2,1,#1,,,false,",
+            "#2,1,#1,,,true,",
+        ],
+    ),
+    (&[Token::Product(0)], &[""]),
+    (&[Token::Product(2), Token::Dot, Token::Partition(1)], &[]),
+    (&[Token::Range(5, 3)], &[]),
 ];
 
-fn agree(rt: &impl Abort, alloc: Global, rows: &[&[Token]]) -> Result<(), Fail> {
-    for tokens in rows {
-        let sort = sort_of(alloc, tokens)?;
-        agrees(rt, alloc, &sort)?;
+fn agrees(rt: &impl Abort, alloc: Global, tokens: &[Token], want: &[&str]) -> Result<(), Fail> {
+    let sort = sort_of(alloc, tokens)?;
+    are_at(rt, alloc, &sort, want)
+}
+
+fn agree(rt: &impl Abort, alloc: Global, rows: &[(&[Token], &[&str])]) -> Result<(), Fail> {
+    for (tokens, want) in rows {
+        agrees(rt, alloc, tokens, want)?;
     }
     Ok(())
 }
@@ -324,7 +282,7 @@ fn places_and_values(rt: HostRuntime) -> Result<(), Fail> {
 }
 
 #[test]
-fn places_as_a_plain_recursion_has_them(rt: HostRuntime) -> Result<(), Fail> {
+fn values_in_order(rt: HostRuntime) -> Result<(), Fail> {
     agree(&rt, rt.alloc(), &FINITE)
 }
 
@@ -355,7 +313,7 @@ const SIZES: [(&[Token], Size); 10] = [
 fn have_sizes(rt: &impl Abort, alloc: Global, rows: &[(&[Token], Size)]) -> Result<(), Fail> {
     for (tokens, want) in rows {
         let sort = sort_of(alloc, tokens)?;
-        assert_eq!(rt; size(&WIDTHS, &sort), *want);
+        assert!(rt; size(&WIDTHS, &sort) == *want);
     }
     Ok(())
 }
@@ -366,7 +324,7 @@ fn sizes_are_capped(rt: HostRuntime) -> Result<(), Fail> {
 }
 
 fn is_in(rt: &impl Abort, sort: &Sort, value: &Value, want: bool) {
-    assert_eq!(rt; has_value(&WIDTHS, sort, value), want, "{value:?}");
+    assert!(rt; has_value(&WIDTHS, sort, value) == want);
 }
 
 #[test]

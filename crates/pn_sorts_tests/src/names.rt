@@ -70,7 +70,7 @@ fn find(rt: &impl Abort, index: &Index) {
         ("", None),
     ];
     for (id, want) in rows {
-        assert_eq!(rt; index.find(id), want, "{id}");
+        assert!(rt; index.find(id) == want);
     }
 }
 
@@ -82,50 +82,32 @@ fn id_again<'a>(items: &'a [Declaration], index: &Index, id: &str) -> Option<&'a
     Some(constant_id(items, constant))
 }
 
-fn is_told_again(items: &[Declaration], index: &Index, id: &str) -> bool
-    requires { index.now ≡ names_of items.now }
-{
-    match id_again(items, index, id) {
-        Some(again) => again == id,
-        None => false,
-    }
-}
-
 fn constants_tell_their_ids(rt: &impl Abort, items: &[Declaration], index: &Index)
     requires { index.now ≡ names_of items.now }
 {
     for id in ["red", "green", "blue", "mon", "tue", "low", "high"] {
-        assert!(rt; is_told_again(items, index, id), "{id}");
+        assert!(rt; id_again(items, index, id) == Some(id));
     }
     for id in ["colour", "x", "half", "none", "pink"] {
-        assert!(rt; id_again(items, index, id).is_none(), "{id}");
+        assert!(rt; id_again(items, index, id).is_none());
     }
 }
 
-fn find_sorts(rt: &impl Abort, index: &Index) {
-    for (id, want) in [("day", Some(2)), ("half", Some(3)), ("x", None)] {
-        assert_eq!(rt; index.sort_place(id), want, "{id}");
-    }
-}
-
-fn find_partitions(rt: &impl Abort, index: &Index) {
-    for (id, want) in [("half", Some(3)), ("day", None)] {
-        assert_eq!(rt; index.partition(id), want, "{id}");
-    }
-}
-
-fn find_variables(rt: &impl Abort, index: &Index) {
-    for (id, want) in [("y", Some(1)), ("red", None)] {
-        assert_eq!(rt; index.variable(id), want, "{id}");
-    }
+/// What ids name where one kind of declaration is asked for.
+fn finds_each_kind(index: &Index) -> bool {
+    index.sort_place("day") == Some(2)
+        && index.sort_place("half") == Some(3)
+        && index.sort_place("x").is_none()
+        && index.partition("half") == Some(3)
+        && index.partition("day").is_none()
+        && index.variable("y") == Some(1)
+        && index.variable("red").is_none()
 }
 
 fn are_named(rt: &impl Abort, alloc: Global, items: &[Declaration]) -> Result<(), Fail> {
     let index = index_of(rt, alloc, items)?;
     find(rt, &index);
-    find_sorts(rt, &index);
-    find_partitions(rt, &index);
-    find_variables(rt, &index);
+    assert!(rt; finds_each_kind(&index));
     constants_tell_their_ids(rt, items, &index);
     Ok(())
 }
@@ -150,17 +132,23 @@ fn id_of_variable<'a>(items: &'a [Declaration], places: &[u32], v: u32) -> Optio
 fn have_widths(rt: &impl Abort, alloc: Global, items: &[Declaration]) -> Result<(), Fail> {
     assert!(rt; are_numbered(items));
     let counts = widths(alloc, items)?;
-    assert_eq!(rt; counts.as_slice(), [3, 0, 2, 2, 0, 0, 0].as_slice());
+    assert!(rt; counts.as_slice() == [3, 0, 2, 2, 0, 0, 0].as_slice());
     Ok(())
+}
+
+fn are_x_and_y(items: &[Declaration], places: &[u32]) -> bool
+    requires { places.now ≡ variable_places_of items.now }
+{
+    places == [1, 4].as_slice()
+        && id_of_variable(items, places, 0) == Some("x")
+        && id_of_variable(items, places, 1) == Some("y")
+        && id_of_variable(items, places, 2).is_none()
 }
 
 fn have_variables(rt: &impl Abort, alloc: Global, items: &[Declaration]) -> Result<(), Fail> {
     assert!(rt; items.len() == 7);
     let places = variable_places(alloc, items)?;
-    assert_eq!(rt; places.as_slice(), [1, 4].as_slice());
-    for (v, want) in [(0, Some("x")), (1, Some("y")), (2, None)] {
-        assert_eq!(rt; id_of_variable(items, &places, v), want);
-    }
+    assert!(rt; are_x_and_y(items, &places));
     Ok(())
 }
 
@@ -168,8 +156,8 @@ fn tell_their_own(rt: &impl Abort, alloc: Global, items: &[Declaration]) -> Resu
     have_widths(rt, alloc, items)?;
     have_variables(rt, alloc, items)?;
     assert!(rt; items.len() == 7);
-    assert_eq!(rt; declaration_id(items, 3), "half");
-    assert_eq!(rt; constant_count(&items[3]), 2);
+    assert!(rt; declaration_id(items, 3) == "half");
+    assert!(rt; constant_count(&items[3]) == 2);
     Ok(())
 }
 
@@ -185,6 +173,21 @@ fn with_variable(alloc: Global, id: &str) -> Result<Vec<Declaration>, AllocError
     Ok(items)
 }
 
+fn has_distinct_ids(
+    rt: &impl Abort,
+    alloc: Global,
+    items: &[Declaration],
+) -> Result<bool, AllocError> {
+    assert!(rt; are_numbered(items));
+    are_distinct(alloc, items)
+}
+
+/// Whether the ids are distinct with one more variable of this id.
+fn are_distinct_with(rt: &impl Abort, alloc: Global, id: &str) -> Result<bool, AllocError> {
+    let items = with_variable(alloc, id)?;
+    has_distinct_ids(rt, alloc, &items)
+}
+
 #[test]
 fn an_id_given_twice(rt: HostRuntime) -> Result<(), Fail> {
     for (id, distinct) in [
@@ -194,9 +197,7 @@ fn an_id_given_twice(rt: HostRuntime) -> Result<(), Fail> {
         ("x", false),
         ("low", false),
     ] {
-        let items = with_variable(rt.alloc(), id)?;
-        assert!(rt; are_numbered(&items));
-        assert_eq!(rt; are_distinct(rt.alloc(), &items)?, distinct, "{id}");
+        assert!(rt; are_distinct_with(&rt, rt.alloc(), id)? == distinct);
     }
     Ok(())
 }

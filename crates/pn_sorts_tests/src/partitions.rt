@@ -60,7 +60,7 @@ fn has_table(
     want: &str,
 ) -> Result<(), Fail> {
     let text = table_text(alloc, table)?;
-    assert_eq!(rt; text.as_str(), want);
+    assert!(rt; text.as_str() == want);
     Ok(())
 }
 
@@ -199,6 +199,13 @@ fn all_numbers(alloc: Global, count: i64) -> Result<Items<PartElement>, AllocErr
     Ok(elements)
 }
 
+fn has_a_million_places(table: &Option<Vec<u32>>) -> bool {
+    match table {
+        Some(table) => table.len() == 1048576,
+        None => false,
+    }
+}
+
 fn has_a_million(
     rt: &impl Abort,
     alloc: Global,
@@ -213,7 +220,7 @@ fn has_a_million(
         end: 1048575,
     };
     let table = part_table(alloc, index, &[], &base, elements)?;
-    assert_eq!(rt; table.map(|table| table.len()), Some(1048576));
+    assert!(rt; has_a_million_places(&table));
     Ok(())
 }
 

@@ -28,7 +28,7 @@ fn add_users(
 }
 
 /// The product of what a name means, twice, all at one offset.
-fn twice(alloc: Global, at: u64, name: &str) -> Result<SortExpr, AllocError> {
+pub(crate) fn twice(alloc: Global, at: u64, name: &str) -> Result<SortExpr, AllocError> {
     let mut parts = Items::new(alloc);
     add_users(alloc, &mut parts, at, name)?;
     Ok(sort(at, SortNode::Product(parts)))
@@ -86,7 +86,11 @@ fn add_links(
 }
 
 /// Declarations of which each is named by the next, once or twice. Each has an offset of its own.
-fn chain(alloc: Global, count: u64, doubles: bool) -> Result<Vec<Declaration>, AllocError> {
+pub(crate) fn chain(
+    alloc: Global,
+    count: u64,
+    doubles: bool,
+) -> Result<Vec<Declaration>, AllocError> {
     let mut items = Vec::new(alloc);
     add_links(alloc, &mut items, count, doubles)?;
     Ok(items)
@@ -126,11 +130,14 @@ fn least(
     least_by(rt, alloc, items, &index)
 }
 
+/// Whether a fault is this one, whole.
+pub(crate) fn is_fault(fault: &Fault, reason: Reason, at: u64, detail: &str) -> bool {
+    fault.reason == reason && fault.at == at && fault.detail.as_str() == detail
+}
+
 fn is(least: &Option<Fault>, reason: Reason, at: u64, detail: &str) -> bool {
     match least {
-        Some(fault) => {
-            fault.reason == reason && fault.at == at && fault.detail.as_str() == detail
-        }
+        Some(fault) => is_fault(fault, reason, at, detail),
         None => false,
     }
 }
@@ -207,17 +214,19 @@ fn a_long_chain_has_no_fault(rt: HostRuntime) -> Result<(), Fail> {
     have_no_fault(&rt, rt.alloc(), &items)
 }
 
+fn extent_of_name(
+    rt: &impl Abort,
+    alloc: Global,
+    items: &[Declaration],
+    name: &str,
+) -> Result<Extent, AllocError> {
+    let expr = user(alloc, 0, name)?;
+    extent_of(rt, alloc, items, &expr)
+}
+
 fn fit(rt: &impl Abort, alloc: Global, items: &[Declaration]) -> Result<(), Fail> {
     have_no_fault(rt, alloc, items)?;
-    let last = user(alloc, 0, "s11")?;
-    let extent = extent_of(rt, alloc, items, &last)?;
-    assert_eq!(rt;
-        extent,
-        Extent::Fits {
-            depth: 12,
-            nodes: 4095
-        }
-    );
+    assert!(rt; extent_of_name(rt, alloc, items, "s11")? == fits(12, 4095));
     Ok(())
 }
 
@@ -240,21 +249,35 @@ fn doubles_past_that_are_too_big(rt: HostRuntime) -> Result<(), Fail> {
     )
 }
 
+fn fits(depth: u32, nodes: u32) -> Extent {
+    Extent::Fits { depth, nodes }
+}
+
 fn list_extent(rt: &impl Abort, alloc: Global, count: usize) -> Result<Extent, AllocError> {
     let lists = lists(alloc, 0, count)?;
     extent_of(rt, alloc, &[], &lists)
 }
 
+/// The product of so many dots.
+fn dots(alloc: Global, count: usize) -> Result<SortExpr, AllocError> {
+    let mut parts = Items::new(alloc);
+    for _ in 0..count {
+        parts.push(sort(0, SortNode::Dot))?;
+    }
+    Ok(sort(0, SortNode::Product(parts)))
+}
+
+fn dots_extent(rt: &impl Abort, alloc: Global, count: usize) -> Result<Extent, AllocError> {
+    let dots = dots(alloc, count)?;
+    extent_of(rt, alloc, &[], &dots)
+}
+
 #[test]
-fn lists_fit_up_to_the_depth_32(rt: HostRuntime) -> Result<(), Fail> {
-    assert_eq!(rt;
-        list_extent(&rt, rt.alloc(), 31)?,
-        Extent::Fits {
-            depth: 32,
-            nodes: 32
-        }
-    );
-    assert_eq!(rt; list_extent(&rt, rt.alloc(), 32)?, Extent::TooBig);
+fn sorts_fit_up_to_the_limits(rt: HostRuntime) -> Result<(), Fail> {
+    assert!(rt; list_extent(&rt, rt.alloc(), 31)? == fits(32, 32));
+    assert!(rt; list_extent(&rt, rt.alloc(), 32)? == Extent::TooBig);
+    assert!(rt; dots_extent(&rt, rt.alloc(), 4095)? == fits(2, 4096));
+    assert!(rt; dots_extent(&rt, rt.alloc(), 4096)? == Extent::TooBig);
     Ok(())
 }
 
@@ -356,44 +379,53 @@ fn is_pair(sort: &Result<Sort, ResolveFault>) -> bool {
     }
 }
 
-fn has_fault(sort: &Result<Sort, ResolveFault>) -> bool {
-    matches!(sort, Err(ResolveFault::Fault(_)))
+fn is_unknown_sort(sort: &Result<Sort, ResolveFault>, at: u64, name: &str) -> bool {
+    match sort {
+        Err(ResolveFault::Fault(fault)) => is_fault(fault, Reason::UnknownSort, at, name),
+        _ => false,
+    }
 }
 
 fn is_elsewhere(sort: &Result<Sort, ResolveFault>) -> bool {
     matches!(sort, Err(ResolveFault::Elsewhere))
 }
 
-fn means_a_pair(rt: &impl Abort, alloc: Global, items: &[Declaration]) -> Result<(), Fail> {
-    let expr = user(alloc, 0, "p")?;
-    let sort = resolved(rt, alloc, items, &expr);
-    assert!(rt; is_pair(&sort));
-    Ok(())
+/// What the expression that is this name, at the offset 7, stands for.
+fn meaning_of(
+    rt: &impl Abort,
+    alloc: Global,
+    items: &[Declaration],
+    name: &str,
+) -> Result<Sort, ResolveFault> {
+    let expr = user(alloc, 7, name)?;
+    resolved(rt, alloc, items, &expr)
 }
 
-fn is_unknown(rt: &impl Abort, alloc: Global, items: &[Declaration]) -> Result<(), Fail> {
-    let expr = user(alloc, 7, "c1")?;
-    let sort = resolved(rt, alloc, items, &expr);
-    assert!(rt; has_fault(&sort));
-    Ok(())
+fn means_a_pair(rt: &impl Abort, alloc: Global, items: &[Declaration]) -> bool {
+    let sort = meaning_of(rt, alloc, items, "p");
+    is_pair(&sort)
 }
 
-fn leads_elsewhere(rt: &impl Abort, alloc: Global, items: &[Declaration]) -> Result<(), Fail> {
-    let expr = user(alloc, 7, "q")?;
-    let sort = resolved(rt, alloc, items, &expr);
-    assert!(rt; is_elsewhere(&sort));
-    Ok(())
+fn is_unknown(rt: &impl Abort, alloc: Global, items: &[Declaration]) -> bool {
+    let sort = meaning_of(rt, alloc, items, "c1");
+    is_unknown_sort(&sort, 7, "c1")
 }
 
-fn resolve_each(rt: &impl Abort, alloc: Global, items: &[Declaration]) -> Result<(), Fail> {
-    means_a_pair(rt, alloc, items)?;
-    is_unknown(rt, alloc, items)?;
-    leads_elsewhere(rt, alloc, items)
+fn leads_elsewhere(rt: &impl Abort, alloc: Global, items: &[Declaration]) -> bool {
+    let sort = meaning_of(rt, alloc, items, "q");
+    is_elsewhere(&sort)
+}
+
+fn resolve_each(rt: &impl Abort, alloc: Global, items: &[Declaration]) {
+    assert!(rt; means_a_pair(rt, alloc, items));
+    assert!(rt; is_unknown(rt, alloc, items));
+    assert!(rt; leads_elsewhere(rt, alloc, items));
 }
 
 #[test]
 fn resolves(rt: HostRuntime) -> Result<(), Fail> {
     let mut items = Vec::new(rt.alloc());
     add_pair(rt.alloc(), &mut items)?;
-    resolve_each(&rt, rt.alloc(), &items)
+    resolve_each(&rt, rt.alloc(), &items);
+    Ok(())
 }

@@ -1,17 +1,6 @@
-use Rattle.std.proofs.Common.{Err, ap, ◌∙◌}
-use Rattle.pn_sorts.specs.Standing.Stands.{besides}
-use Rattle.pn_resolve.specs.Standing.StandsBesides.{in_sort}
+use Rattle.std.proofs.Common.{ap, sym, ◌∙◌}
+use Rattle.pn_syntax.specs.declared.sort_expr.SortNode.TheVariants as nodes
 use Rattle.pn_sorts.proofs.settle.entry.Goals as goal
 
-pub returns-in-Ok : goal.returns-in-Ok
-returns-in-Ok c items table d there is = (c.resolve.ensures.ok c.in-Ok.sort c.in-Ok.is items table).0
-
-pub returns-in-Err-Fault : goal.returns-in-Err-Fault
-returns-in-Err-Fault c items table d there is =
-    let least = c.resolve.ensures.fault c.in-Err-Fault.field-0-0 (c.in-Err-Fault.is ∙ ap Err c.in-Err-Fault.field-0-is) items table in
-    (c.in-Err-Fault.field-0-0, besides _ (in_sort _ d c.args.expr.now there is least.0))
-
-pub returns : goal.returns
-returns c items table d there is =
-    let elsewhere = c.resolve.ensures.elsewhere (c.in-Err-Elsewhere.is ∙ ap Err c.in-Err-Elsewhere.field-0-is) items table in
-    (elsewhere.2.0, besides elsewhere.2.0 elsewhere.2.1)
+pub returns-in-User : goal.returns-in-User
+returns-in-User c items table = c.named_entry.ensures items c.args.expr.now table (c.in-User.is ∙ ap nodes.User (sym c.as_str.ensures))

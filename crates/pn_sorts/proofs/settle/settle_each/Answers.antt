@@ -6,7 +6,7 @@ use Rattle.pn_sorts.proofs.settle.settle_each.Goals as goal
 
 pub loop-item-preserved : goal.loop-item-preserved
 loop-item-preserved c = (
-  settled_more c.args.items.now c.loop-item.item-index c.item-item.result c.loop-item.sorts.items c.push.new.self.items c.loop-item.tables.items c.push-in-loop-item.new.self.items c.in_ok-sort.sort c.in_ok-sort.parts
+  settled_more c.args.items.now c.args.table.now.sorts c.loop-item.item-index c.item-item.result c.loop-item.sorts.items c.push.new.self.items c.loop-item.tables.items c.push-in-loop-item.new.self.items c.in_ok-sort.sort c.in_ok-sort.parts
       c.loop-item.invariant.0 c.loop-item-test.true c.item-item.is c.in_ok-push.ensures.items c.in_ok-push-2.ensures.items c.in_ok-sort.ensures.sort c.in_ok-sort.ensures.table,
   least_more c.args.items.now c.loop-item.item-index c.item-item.result c.loop-item.least c.settle_item.new.least c.loop-item-test.true c.item-item.is c.loop-item.invariant.1 (c.in_ok-sort.ensures.least refl),
 )
