@@ -57,7 +57,8 @@ fn put_variables(alloc: Global, items: &mut Vec<Declaration>) -> Result<(), Allo
     add_variable(alloc, items, "n", 0, sort(0, SortNode::Natural))
 }
 
-fn put_all(alloc: Global, items: &mut Vec<Declaration>) -> Result<(), AllocError> {
+/// Enters all of them.
+pub(crate) fn put_all(alloc: Global, items: &mut Vec<Declaration>) -> Result<(), AllocError> {
     put_sorts(alloc, items)?;
     put_names(alloc, items)?;
     put_variables(alloc, items)

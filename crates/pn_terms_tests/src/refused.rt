@@ -2,12 +2,10 @@
 
 ghost use Rattle.pn_sorts.specs.Standing.{IsFaultless};
 
-use crate::declared::declared;
 use crate::sorted::typed;
 use pn_sorts::{Decls, Fault, Refusal};
 use std::alloc::Global;
 use std::process::Abort;
-use std::test::Fail;
 
 /// Each row that asks for an argument, with one argument too few.
 const TOO_FEW: &str = "\
@@ -271,7 +269,8 @@ fn are_wrong(rt: &impl Abort, alloc: Global, decls: &Decls, rows: &str)
     }
 }
 
-fn each_fault(rt: &impl Abort, alloc: Global, decls: &Decls)
+/// Each row of each table.
+pub(crate) fn each_fault(rt: &impl Abort, alloc: Global, decls: &Decls)
     requires { IsFaultless decls.now }
 {
     are_wrong(rt, alloc, decls, TOO_FEW);
@@ -280,11 +279,4 @@ fn each_fault(rt: &impl Abort, alloc: Global, decls: &Decls)
     are_wrong(rt, alloc, decls, WRONG_HIGH_LEVEL);
     are_told(rt, alloc, decls, REASONS);
     are_told(rt, alloc, decls, SEVERAL);
-}
-
-#[test]
-fn faults_of_terms(rt: HostRuntime) -> Result<(), Fail> {
-    let decls = declared(&rt, rt.alloc())?;
-    each_fault(&rt, rt.alloc(), &decls);
-    Ok(())
 }

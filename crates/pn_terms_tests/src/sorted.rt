@@ -3,6 +3,7 @@
 ghost use Rattle.pn_sorts.specs.Standing.{IsFaultless};
 
 use crate::declared::declared;
+use crate::refused::each_fault;
 use crate::written::{term, term_sort};
 use pn_sorts::{Decls, Refusal};
 use pn_terms::{Kind, Op, Term, TermSort, find_op, laws, sort_fault, sort_of, variables};
@@ -143,13 +144,6 @@ fn each_sort(rt: &impl Abort, alloc: Global, decls: &Decls) -> Result<(), AllocE
     are_sorted(rt, alloc, decls, HIGH_LEVEL)
 }
 
-#[test]
-fn sorts_of_terms(rt: HostRuntime) -> Result<(), Fail> {
-    let decls = declared(&rt, rt.alloc())?;
-    each_sort(&rt, rt.alloc(), &decls)?;
-    Ok(())
-}
-
 /// Whether these are the variables of the term.
 fn are_in(alloc: Global, decls: &Decls, term: &Term, numbers: &[u32]) -> Result<bool, AllocError> {
     let found = variables(alloc, decls, term)?;
@@ -182,10 +176,18 @@ fn once_in_order(rt: &impl Abort, alloc: Global, decls: &Decls) -> Result<(), Al
     Ok(())
 }
 
+fn each_term(rt: &impl Abort, alloc: Global, decls: &Decls) -> Result<(), AllocError>
+    requires { IsFaultless decls.now }
+{
+    each_sort(rt, alloc, decls)?;
+    each_fault(rt, alloc, decls);
+    once_in_order(rt, alloc, decls)
+}
+
 #[test]
-fn variables_once_in_order(rt: HostRuntime) -> Result<(), Fail> {
+fn terms(rt: HostRuntime) -> Result<(), Fail> {
     let decls = declared(&rt, rt.alloc())?;
-    once_in_order(&rt, rt.alloc(), &decls)?;
+    each_term(&rt, rt.alloc(), &decls)?;
     Ok(())
 }
 
