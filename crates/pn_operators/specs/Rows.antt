@@ -10,7 +10,7 @@ use Rattle.pn_operators.specs.Operators.{name_of, from_of, least_of, most_of, is
 
 -- the operators in their order
 abbrev pub all_operators : List Op
-all_operators = op.DotConstant ∷ op.And ∷ op.Or ∷ op.Not ∷ op.Imply ∷ op.Equality ∷ op.Inequality ∷ op.Successor ∷ op.Predecessor ∷ op.LessThan ∷ op.LessThanOrEqual ∷ op.GreaterThan ∷ op.GreaterThanOrEqual ∷ op.Ltp ∷ op.Gtp ∷ op.Tuple ∷ op.NumberOf ∷ op.Add ∷ op.Subtract ∷ op.ScalarProduct ∷ []
+all_operators = op.DotConstant ∷ op.And ∷ op.Or ∷ op.Not ∷ op.Imply ∷ op.Equality ∷ op.Inequality ∷ op.Successor ∷ op.Predecessor ∷ op.LessThan ∷ op.LessThanOrEqual ∷ op.GreaterThan ∷ op.GreaterThanOrEqual ∷ op.Ltp ∷ op.Gtp ∷ op.Tuple ∷ op.NumberOf ∷ op.Add ∷ op.Subtract ∷ op.ScalarProduct ∷ op.Addition ∷ op.Subtraction ∷ op.Mult ∷ op.Div ∷ op.Mod ∷ op.Lt ∷ op.Leq ∷ op.Gt ∷ op.Geq ∷ op.Cardinality ∷ op.CardinalityOf ∷ op.Contains ∷ op.StringConcatenation ∷ op.StringLength ∷ op.Lts ∷ op.Leqs ∷ op.Gts ∷ op.Geqs ∷ op.MakeList ∷ op.ListConcatenation ∷ op.ListLength ∷ op.MemberAtIndex ∷ []
 
 -- the row tells of its operator what is so
 pub record TellsOf (row : OpRow) : Type 0 where

@@ -1,5 +1,5 @@
 //! The kinds of nets, the operators of terms, and the one table of their names and of the numbers
-//! of their arguments (ISO/IEC 15909-2, terms of symmetric nets).
+//! of their arguments (ISO/IEC 15909-2, terms of symmetric nets and of high-level nets).
 #![tactic(auto)]
 
 mod kind;

@@ -1,6 +1,6 @@
 ghost use Rattle.std.specs.Prelude.{◌≡◌, ◌↔◌, Some};
-ghost use Rattle.pn_operators.specs.Operators.{name_of, is_taken, IsTaken};
-ghost use Rattle.pn_operators.specs.Rows.{found_in, IsTable};
+ghost use Rattle.pn_operators.specs.Operators.{name_of, IsTaken};
+ghost use Rattle.pn_operators.specs.Rows.{found_in, IsTable, TellsOf};
 ghost use Rattle.pn_operators.specs.declared.op.Op.{Op};
 
 use crate::{Kind, Op, OpRow};
@@ -19,21 +19,18 @@ fn first_found(rows: &[OpRow], name: &str, kind: Kind) -> Option<Op>
     ensures { result ≡ found_in name.now kind rows.now }
 {
     for row in rows {
-        if row.name == name && has(row.from, kind) {
+        if row.name == name && kind.has(row.from) {
             return Some(row.op);
         }
     }
     None
 }
 
-/// Whether nets of the second kind have what the first kind has.
-fn has(from: Kind, kind: Kind) -> bool
-    ensures { result ≡ is_taken from kind }
+/// The row of the table that tells of this operator. Takes no memory.
+pub fn row_in(table: &[OpRow], op: Op) -> OpRow
+    requires { IsTable table.now }
+    ensures operator { result.op ≡ op }
+    ensures tells { TellsOf result }
 {
-    match (from, kind) {
-        (Kind::Symmetric, Kind::Symmetric) => true,
-        (Kind::Symmetric, Kind::HighLevel) => true,
-        (Kind::HighLevel, Kind::HighLevel) => true,
-        _ => false,
-    }
+    table[op as usize]
 }

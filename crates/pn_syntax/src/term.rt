@@ -24,7 +24,8 @@ pub struct Term {
 }
 
 /// What a term says. `Variable` names a variable, `UserOp` a constant or an element of a
-/// partition. `All` and `Empty` have the sort whose multisets they are of.
+/// partition. `Text` is a constant of texts. `All` and `Empty` have the sort whose multisets they
+/// are of, `EmptyList` the sort of the items that it might have.
 #[derive(Debug, Drop)]
 #[cycle(term)]
 pub enum TermNode {
@@ -33,8 +34,10 @@ pub enum TermNode {
     Bool(bool),
     Number { value: i64, sort: NumberSort },
     RangeConst { value: i64, start: i64, end: i64 },
+    Text(Text),
     All(SortExpr),
     Empty(SortExpr),
+    EmptyList(SortExpr),
     PartitionOf { partition: Text, arg: Boxed<Term> },
     Apply { op: Op, args: Items<Term> },
 }
@@ -71,8 +74,10 @@ impl TermNode {
                 start: *start,
                 end: *end,
             }),
+            TermNode::Text(text) => Ok(TermNode::Text(text.copy(alloc)?)),
             TermNode::All(sort) => Ok(TermNode::All(sort.copy(alloc)?)),
             TermNode::Empty(sort) => Ok(TermNode::Empty(sort.copy(alloc)?)),
+            TermNode::EmptyList(sort) => Ok(TermNode::EmptyList(sort.copy(alloc)?)),
             TermNode::PartitionOf { partition, arg } => Ok(TermNode::PartitionOf {
                 partition: partition.copy(alloc)?,
                 arg: Boxed::new(alloc, arg.get().copy(alloc)?)?,

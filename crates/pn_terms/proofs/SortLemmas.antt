@@ -69,10 +69,13 @@ gives_once items (layer.UserOp name) ts s t (c, sort, is, has, given) (c', sort'
 gives_once items (layer.Bool truth) ts s t h k = h ∙ sym k
 gives_once items (layer.Number value sort) ts s t h k = h.1 ∙ sym k.1
 gives_once items (layer.RangeConst value start end) ts s t h k = h.1 ∙ sym k.1
+gives_once items (layer.Text text) ts s t h k = h.1 ∙ sym k.1
 gives_once items (layer.All e) ts s t (sort, has, small, given) (sort', has', small', given') =
     given ∙ ap (λ x. terms.Bag (kin_of x)) (resolves_once items e sort sort' has has') ∙ sym given'
 gives_once items (layer.Empty e) ts s t (sort, has, given) (sort', has', given') =
     given ∙ ap (λ x. terms.Bag (kin_of x)) (resolves_once items e sort sort' has has') ∙ sym given'
+gives_once items (layer.EmptyList e) ts s t (sort, has, given) (sort', has', given') =
+    given ∙ ap (λ x. terms.Basis (sorts.List (kin_of x))) (resolves_once items e sort sort' has has') ∙ sym given'
 gives_once items (layer.PartitionOf name arg) ts s t (p, base, is, has, fit, given) (p', base', is', has', fit', given') =
     given ∙ ap (λ x. terms.Basis (sorts.Partition x)) (same_some p p' _ is is') ∙ sym given'
 gives_once items (layer.Apply op args) ts s t h k = h.1 ∙ sym k.1
@@ -84,9 +87,11 @@ sorted_not_always items (layer.UserOp name) ts s at f (c, sort, is, has, given) 
 sorted_not_always items (layer.Bool truth) ts s at f given h = h
 sorted_not_always items (layer.Number value sort) ts s at f given h = true_is_not_false _ given.0 h.0
 sorted_not_always items (layer.RangeConst value start end) ts s at f given h = true_is_not_false _ given.0 h.0
+sorted_not_always items (layer.Text text) ts s at f given h = true_is_not_false _ given.0 h.0
 sorted_not_always items (layer.All e) ts s at f (sort, has, small, given) (sort', has', large, is) =
     true_is_not_false _ small (ap (is_small items) (resolves_once items e sort sort' has has') ∙ large)
 sorted_not_always items (layer.Empty e) ts s at f given h = h
+sorted_not_always items (layer.EmptyList e) ts s at f given h = h
 sorted_not_always items (layer.PartitionOf name arg) ts s at f (p, base, is, has, fit, given) h = some_is_not_none p _ is h.0
 sorted_not_always items (layer.Apply op args) ts s at f given h = h
 
@@ -96,8 +101,10 @@ sorted_not_with items (layer.UserOp name) ts s at f given h = h
 sorted_not_with items (layer.Bool truth) ts s at f given h = h
 sorted_not_with items (layer.Number value sort) ts s at f given h = h
 sorted_not_with items (layer.RangeConst value start end) ts s at f given h = h
+sorted_not_with items (layer.Text text) ts s at f given h = h
 sorted_not_with items (layer.All e) ts s at f given h = h
 sorted_not_with items (layer.Empty e) ts s at f given h = h
+sorted_not_with items (layer.EmptyList e) ts s at f given h = h
 sorted_not_with items (layer.PartitionOf name arg) ts s at f (p, base, is, has, fit, given) (p', base', is', has', unfit, told) =
     let same = same_some p p' _ is is' in
     unfit (fit ∙ ap (λ x. terms.Basis x ∷ []) (base_once items p' base base' (subst (λ n. IsBaseSort items n base) same has) has'))
@@ -110,8 +117,10 @@ always_once items (layer.UserOp name) at f g h k = k.1 ∙ sym h.1
 always_once items (layer.Bool truth) at f g h k = absurd h
 always_once items (layer.Number value sort) at f g h k = k.1 ∙ sym h.1
 always_once items (layer.RangeConst value start end) at f g h k = k.1 ∙ sym h.1
+always_once items (layer.Text text) at f g h k = k.1 ∙ sym h.1
 always_once items (layer.All e) at f g (sort, has, large, is) (sort', has', large', is') = is' ∙ sym is
 always_once items (layer.Empty e) at f g h k = absurd h
+always_once items (layer.EmptyList e) at f g h k = absurd h
 always_once items (layer.PartitionOf name arg) at f g h k = k.1 ∙ sym h.1
 always_once items (layer.Apply op args) at f g h k = absurd h
 
@@ -121,8 +130,10 @@ with_once items (layer.UserOp name) ts at f g h k = absurd h
 with_once items (layer.Bool truth) ts at f g h k = absurd h
 with_once items (layer.Number value sort) ts at f g h k = absurd h
 with_once items (layer.RangeConst value start end) ts at f g h k = absurd h
+with_once items (layer.Text text) ts at f g h k = absurd h
 with_once items (layer.All e) ts at f g h k = absurd h
 with_once items (layer.Empty e) ts at f g h k = absurd h
+with_once items (layer.EmptyList e) ts at f g h k = absurd h
 with_once items (layer.PartitionOf name arg) ts at f g (p, base, is, has, unfit, told) (p', base', is', has', unfit', told') = told' ∙ sym told
 with_once items (layer.Apply op args) ts at f g h k = k.1 ∙ sym h.1
 
@@ -132,8 +143,10 @@ always_not_with items (layer.UserOp name) ts at f g h k = k
 always_not_with items (layer.Bool truth) ts at f g h k = k
 always_not_with items (layer.Number value sort) ts at f g h k = k
 always_not_with items (layer.RangeConst value start end) ts at f g h k = k
+always_not_with items (layer.Text text) ts at f g h k = k
 always_not_with items (layer.All e) ts at f g h k = k
 always_not_with items (layer.Empty e) ts at f g h k = k
+always_not_with items (layer.EmptyList e) ts at f g h k = k
 always_not_with items (layer.PartitionOf name arg) ts at f g h (p, base, is, has, unfit, told) = some_is_not_none p _ is h.0
 always_not_with items (layer.Apply op args) ts at f g h k = h
 

@@ -1,5 +1,6 @@
--- The outermost layer of a term, by what its node is.
-use Rattle.std.proofs.Common.{◌≡◌, ℕ, ℤ, List, Bool, sym, ap, ◌∙◌}
+-- The outermost layer of a term, by what its node is; and what stands in all parts.
+use Rattle.std.proofs.Common.{◌≡◌, ℕ, ℤ, List, [], ◌∷◌, ◌++◌, map, Bool, refl, sym, ap, ◌∙◌}
+use Rattle.std.specs.List.{flat_map}
 use Rattle.pn_operators.specs.declared.op.Op.{Op}
 use Rattle.pn_syntax.specs.declared.sort_expr.SortExpr.{SortExpr}
 use Rattle.pn_syntax.specs.declared.term.NumberSort.{NumberSort}
@@ -7,7 +8,7 @@ use Rattle.pn_syntax.specs.declared.term.Term.{Term}
 use Rattle.pn_syntax.specs.declared.term.TermNode.{TermNode}
 use Rattle.pn_syntax.specs.declared.term.TermNode.TheOpen as layer
 use Rattle.pn_syntax.specs.declared.term.TermNode.TheVariants as nodes
-use Rattle.pn_syntax.specs.declared.term.TermNode.TheVariants.{rolls-Variable, rolls-UserOp, rolls-Bool, rolls-Number, rolls-RangeConst, rolls-All, rolls-Empty, rolls-PartitionOf, rolls-Apply}
+use Rattle.pn_syntax.specs.declared.term.TermNode.TheVariants.{rolls-Variable, rolls-UserOp, rolls-Bool, rolls-Number, rolls-RangeConst, rolls-Text, rolls-All, rolls-Empty, rolls-EmptyList, rolls-PartitionOf, rolls-Apply}
 use Rattle.pn_syntax.specs.declared.term.TermNode.TheViews.{out-TermNode, out-roll-TermNode}
 
 pub out_variable : (n : TermNode) (name : List ℕ) → n ≡ nodes.Variable name → out-TermNode n ≡ layer.Variable name
@@ -25,14 +26,25 @@ out_number n value sort is = ap out-TermNode (is ∙ sym (rolls-Number value sor
 pub out_range : (n : TermNode) (value start end : ℤ) → n ≡ nodes.RangeConst value start end → out-TermNode n ≡ layer.RangeConst value start end
 out_range n value start end is = ap out-TermNode (is ∙ sym (rolls-RangeConst value start end)) ∙ out-roll-TermNode (layer.RangeConst value start end)
 
+pub out_text : (n : TermNode) (text : List ℕ) → n ≡ nodes.Text text → out-TermNode n ≡ layer.Text text
+out_text n text is = ap out-TermNode (is ∙ sym (rolls-Text text)) ∙ out-roll-TermNode (layer.Text text)
+
 pub out_all : (n : TermNode) (e : SortExpr) → n ≡ nodes.All e → out-TermNode n ≡ layer.All e
 out_all n e is = ap out-TermNode (is ∙ sym (rolls-All e)) ∙ out-roll-TermNode (layer.All e)
 
 pub out_empty : (n : TermNode) (e : SortExpr) → n ≡ nodes.Empty e → out-TermNode n ≡ layer.Empty e
 out_empty n e is = ap out-TermNode (is ∙ sym (rolls-Empty e)) ∙ out-roll-TermNode (layer.Empty e)
 
+pub out_empty_list : (n : TermNode) (e : SortExpr) → n ≡ nodes.EmptyList e → out-TermNode n ≡ layer.EmptyList e
+out_empty_list n e is = ap out-TermNode (is ∙ sym (rolls-EmptyList e)) ∙ out-roll-TermNode (layer.EmptyList e)
+
 pub out_element : (n : TermNode) (name : List ℕ) (arg : Term) → n ≡ nodes.PartitionOf name arg → out-TermNode n ≡ layer.PartitionOf name arg
 out_element n name arg is = ap out-TermNode (is ∙ sym (rolls-PartitionOf name arg)) ∙ out-roll-TermNode (layer.PartitionOf name arg)
 
 pub out_apply : (n : TermNode) (o : Op) (args : List Term) → n ≡ nodes.Apply o args → out-TermNode n ≡ layer.Apply o args
 out_apply n o args is = ap out-TermNode (is ∙ sym (rolls-Apply o args)) ∙ out-roll-TermNode (layer.Apply o args)
+
+-- what stands in parts, part by part
+pub all_joined : {A : Type 0} (f : A → List ℕ) (xs : List A) → flat_map (λ vs. vs) (map f xs) ≡ flat_map f xs
+all_joined f [] = refl
+all_joined f (x ∷ xs) = ap (λ ys. f x ++ ys) (all_joined f xs)

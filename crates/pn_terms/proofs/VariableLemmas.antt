@@ -1,5 +1,5 @@
 -- The variables of a term with arguments are those of the arguments.
-use Rattle.std.proofs.Common.{◌≡◌, ℕ, List, [], ◌∷◌, ◌++◌, map, refl, ap, ◌∙◌}
+use Rattle.std.proofs.Common.{◌≡◌, ℕ, List, ap, ◌∙◌}
 use Rattle.std.specs.List.{flat_map}
 use Rattle.pn_operators.specs.declared.op.Op.{Op}
 use Rattle.pn_syntax.specs.declared.declaration.Declaration.{Declaration}
@@ -10,11 +10,7 @@ use Rattle.pn_syntax.specs.declared.term.TermNode.TheVariants as nodes
 use Rattle.pn_syntax.specs.declared.term.TermNode.TheFolds.{fold-TermNode, fold_out-Term, fold_out-TermNode}
 use Rattle.pn_terms.specs.Terms.{Layer, layer_of}
 use Rattle.pn_terms.specs.Variables.{variables_in_layer, variables_in_term}
-use Rattle.pn_terms.proofs.TermLemmas.{out_apply}
-
-all_joined : {A : Type 0} (f : A → List ℕ) (xs : List A) → flat_map (λ vs. vs) (map f xs) ≡ flat_map f xs
-all_joined f [] = refl
-all_joined f (x ∷ xs) = ap (λ ys. f x ++ ys) (all_joined f xs)
+use Rattle.pn_terms.proofs.TermLemmas.{all_joined, out_apply}
 
 variables_at : (items : List Declaration) (e : Term) (l : Layer) → layer_of e ≡ l
     → variables_in_term items e ≡ variables_in_layer items (map-TermNode TermNode Term (List ℕ) (List ℕ) (fold-TermNode (List ℕ) (List ℕ) (variables_in_layer items) (λ e. e.node)) (variables_in_term items) l)

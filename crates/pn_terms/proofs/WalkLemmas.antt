@@ -1,8 +1,8 @@
 -- What a walk over a term tells, by what it tells of the parts and of the node.
-use Rattle.std.proofs.Common.{◌≡◌, ◌⊎◌, inl, inr, ℕ, ◌+◌, ◌<◌, ◌≤◌, List, [], ◌∷◌, ◌++◌, length, get_or, take, Bool, true, false, cond, Option, Some, None, Result, Ok, Err, IfOk, IsTrue, ◌↔◌, ℤ, refl, sym, ap, ◌∙◌, subst}
+use Rattle.std.proofs.Common.{◌≡◌, ◌⊎◌, inl, inr, ℕ, ◌+◌, ◌<◌, ◌≤◌, List, [], ◌∷◌, ◌++◌, length, get_or, take, Bool, true, false, cond, Option, Some, None, Result, Ok, Err, IfOk, OnOk, ℤ, refl, sym, ap, ◌∙◌, subst}
 use Rattle.std.proofs.lemmas.List.{take_all, take_more}
 use Rattle.std.specs.List.{Contains}
-use Rattle.std.proofs.lemmas.List.Elements.{Contains-append_cases}
+use Rattle.std.proofs.lemmas.List.Elements.{Contains-append_cases, Contains-get_or}
 use Rattle.pn_faults.specs.declared.fault.Fault.{Fault}
 use Rattle.pn_syntax.specs.declared.declaration.Declaration.{Declaration}
 use Rattle.pn_facts.proofs.Contained.{contains_nil, contains_one, contains_first}
@@ -19,10 +19,10 @@ use Rattle.pn_operators.specs.declared.op.Op.{Op}
 use Rattle.pn_values.specs.declared.sort.Sort.TheVariants as sorts
 use Rattle.pn_syntax.specs.declared.sort_expr.SortExpr.{SortExpr}
 use Rattle.pn_terms.specs.Rows.{AreAlike, first_of}
-use Rattle.pn_terms.specs.Sorts.{Gives, HasSort, HaveSorts, IsOfAll, IsOfConstant, IsOfElement, IsOfEmpty, IsOfOperator, IsOfVariable, is_good_number, is_in_range, none, more}
-use Rattle.pn_terms.specs.Standing.{HasSoundSort, HasSoundSorts, IsBadNumber, IsOutside, IsTooLarge, IsUnknownOperator, IsUnknownPartition, IsUnknownVariable, IsWrongElement, IsWrongFor, StandsAlways, StandsWith, StandsAt, StandsIn}
+use Rattle.pn_terms.specs.Sorts.{Gives, HasSort, HaveSorts, IsOfAll, IsOfConstant, IsOfElement, IsOfEmpty, IsOfEmptyList, IsOfOperator, IsOfVariable, is_good_number, is_good_text, is_in_range, none, more}
+use Rattle.pn_terms.specs.Standing.{IsBadNumber, IsBadText, IsOutside, IsTooLarge, IsUnknownOperator, IsUnknownPartition, IsUnknownVariable, IsWrongElement, IsWrongFor, StandsAlways, StandsWith, StandsAt, StandsIn}
 use Rattle.pn_terms.specs.Terms.{IsPart, itself, inside, Layer, layer_of, parts_in, parts_of}
-use Rattle.pn_terms.proofs.TermLemmas.{out_variable, out_constant, out_truth, out_number, out_range, out_all, out_empty, out_element, out_apply}
+use Rattle.pn_terms.proofs.TermLemmas.{out_variable, out_constant, out_truth, out_number, out_range, out_text, out_all, out_empty, out_empty_list, out_element, out_apply}
 use Rattle.pn_terms.proofs.SortLemmas.{sorts_agree, sorted_not_always, sorted_not_with, always_once, with_once, always_not_with, all_sorted_no_fault}
 
 -- what a walk over a term and one over terms tell
@@ -117,10 +117,6 @@ one_walked items e p is old new k =
 pub one_has : (items : List Declaration) (e p : Term) (s : TermSort) → parts_of e ≡ p ∷ [] → HasSort items p s → HaveSorts items (parts_of e) (s ∷ [])
 one_has items e p s is (ts, have, gives) = more (parts_of e) (s ∷ []) p [] s [] ts is refl have gives (none [] [] refl refl)
 
--- the sorts in a term's parts are sound where all in it are
-pub sound_part : (items : List Declaration) (e p : Term) → Contains (parts_of e) p → HasSoundSorts items e → HasSoundSorts items p
-sound_part items e p c sound x part = sound x (inside e x p c part)
-
 -- one more term
 have_next : (items : List Declaration) (es : List Term) (ss : List TermSort) → HaveSorts items es ss → (e : Term) (s : TermSort) → HasSort items e s → HaveSorts items (es ++ e ∷ []) (ss ++ s ∷ [])
 have_next items es ss (none _ _ is_es is_ss) e s (ts, have, gives) =
@@ -148,6 +144,9 @@ all_none items old = walks.all_none (HasSort items) (HaveSorts items) (StandsIn 
 pub next_of : (xs : List Term) (i : ℕ) (x : Term) → i < length xs → x ≡ get_or xs i x → take (i + 1) xs ≡ take i xs ++ x ∷ []
 next_of xs i x lt is = take_more xs i x lt ∙ ap (λ y. take i xs ++ y ∷ []) (sym is)
 
+pub next_in : (xs : List Term) (i : ℕ) (x : Term) → i < length xs → x ≡ get_or xs i x → Contains xs x
+next_in xs i x lt is = subst (Contains xs) (sym is) (Contains-get_or xs i x lt)
+
 alike_first : (ts : List TermSort) (i : ℕ) (x : TermSort) → x ≡ first_of ts → ((t : TermSort) → Contains (take i ts) t → t ≡ first_of ts) → (t : TermSort) → Contains (take i ts) t ⊎ Contains (x ∷ []) t → t ≡ first_of ts
 alike_first ts i x same so_far t (inl a) = so_far t a
 alike_first ts i x same so_far t (inr b) = contains_one x t b ∙ same
@@ -166,6 +165,10 @@ alike_all ts i end all s t a b =
 pub if_ok_more : {A E : Type 0} (r : Result A E) (P Q : A → Type 0) → ((x : A) → P x → Q x) → IfOk r P → IfOk r Q
 if_ok_more (Ok x) P Q to h = to x h
 if_ok_more (Err e) P Q to h = tt
+
+pub on_ok_more : {A E : Type 0} (r : Result A E) (P Q : Type 0) → (P → Q) → OnOk r P → OnOk r Q
+on_ok_more (Ok x) P Q to h = to h
+on_ok_more (Err e) P Q to h = tt
 
 pub walked_variable : (items : List Declaration) (e : Term) (name n : List ℕ) → e.node ≡ nodes.Variable name → n ≡ name → (o : Option TermSort) (old new : Option Fault)
     → IsTold (IsOfVariable items n) (IsUnknownVariable items n e.at) o old new → IsTermWalked items e o old new
@@ -186,12 +189,19 @@ pub walked_range : (items : List Declaration) (e : Term) (value start end : ℤ)
     → IsTold (λ s. (is_in_range items value start end ≡ true) × (s ≡ terms.Basis (sorts.Range start end))) (IsOutside items value start end e.at) o old new → IsTermWalked items e o old new
 walked_range items e value start end is o old new told = walked_leaf items e (layer.RangeConst value start end) (out_range e.node value start end is) refl o old new told
 
+pub walked_text : (items : List Declaration) (e : Term) (text : List ℕ) → e.node ≡ nodes.Text text → (o : Option TermSort) (old new : Option Fault)
+    → IsTold (λ s. (is_good_text items text ≡ true) × (s ≡ terms.Basis sorts.Text)) (IsBadText items text e.at) o old new → IsTermWalked items e o old new
+walked_text items e text is o old new told = walked_leaf items e (layer.Text text) (out_text e.node text is) refl o old new told
+
 pub walked_all_values : (items : List Declaration) (e : Term) (x : SortExpr) → e.node ≡ nodes.All x → (o : Option TermSort) (old new : Option Fault)
     → IsTold (IsOfAll items x) (IsTooLarge items x e.at) o old new → IsTermWalked items e o old new
 walked_all_values items e x is o old new told = walked_leaf items e (layer.All x) (out_all e.node x is) refl o old new told
 
 pub walked_empty : (items : List Declaration) (e : Term) (x : SortExpr) → e.node ≡ nodes.Empty x → (s : TermSort) (old : Option Fault) → IsOfEmpty items x s → IsTermWalked items e (Some s) old old
 walked_empty items e x is s old has = walked_leaf items e (layer.Empty x) (out_empty e.node x is) refl (Some s) old old (has, refl)
+
+pub walked_empty_list : (items : List Declaration) (e : Term) (x : SortExpr) → e.node ≡ nodes.EmptyList x → (s : TermSort) (old : Option Fault) → IsOfEmptyList items x s → IsTermWalked items e (Some s) old old
+walked_empty_list items e x is s old has = walked_leaf items e (layer.EmptyList x) (out_empty_list e.node x is) refl (Some s) old old (has, refl)
 
 pub walked_element : (items : List Declaration) (e : Term) (name n : List ℕ) (arg p : Term) → e.node ≡ nodes.PartitionOf name arg → n ≡ name → p ≡ arg → (found : Option TermSort) (s : TermSort) → found ≡ Some s → (o : Option TermSort) (old mid new : Option Fault)
     → IsTermWalked items p found old mid → IsTold (IsOfElement items n (s ∷ [])) (λ f. IsUnknownPartition items n e.at f ⊎ IsWrongElement items n (s ∷ []) e.at f) o mid new → IsTermWalked items e o old new
@@ -229,55 +239,3 @@ walked_no_apply items e op args ps is given found is_found old mid parts =
     let fault : AnswerOrFault (HaveSorts items ps) (StandsInSome (StandsIn items) ps) None = subst (AnswerOrFault (HaveSorts items ps) (StandsInSome (StandsIn items) ps)) is_found parts.answered in
     walked_without items e fault.0 old mid mid (subst (λ xs. StandsInSome (StandsIn items) xs fault.0) (sym whole) fault.1) (subst (λ xs. KeepsLeast (StandsInSome (StandsIn items) xs) old mid) (sym whole) parts.least)
     (subst (λ l. KeepsLeast (StandsAlways items l e.at) mid mid) (sym out) (keeps_nothing (StandsAlways items (layer.Apply op ps) e.at) mid (λ f h. h)))
-
--- what the condition on the sorts of a term says of its node and of its parts
-pub sound_all : (items : List Declaration) (e : Term) (x : SortExpr) → e.node ≡ nodes.All x → HasSoundSorts items e → HasSoundSort items (layer.All x)
-sound_all items e x is sound = subst (HasSoundSort items) (out_all e.node x is) (sound e (itself e e refl))
-
-pub sound_empty : (items : List Declaration) (e : Term) (x : SortExpr) → e.node ≡ nodes.Empty x → HasSoundSorts items e → HasSoundSort items (layer.Empty x)
-sound_empty items e x is sound = subst (HasSoundSort items) (out_empty e.node x is) (sound e (itself e e refl))
-
-pub sound_element : (items : List Declaration) (e : Term) (name : List ℕ) (arg p : Term) → e.node ≡ nodes.PartitionOf name arg → p ≡ arg → HasSoundSorts items e → HasSoundSorts items p
-sound_element items e name arg p is given sound =
-    let parts : parts_of e ≡ p ∷ [] = ap parts_in (out_element e.node name p (is ∙ ap (λ x. nodes.PartitionOf name x) (sym given))) in
-    sound_part items e p (subst (λ xs. Contains xs p) (sym parts) (contains_first p [])) sound
-
-pub sound_args : (items : List Declaration) (e : Term) (op : Op) (args ps : List Term) → e.node ≡ nodes.Apply op args → ps ≡ args → HasSoundSorts items e → (p : Term) → Contains ps p → HasSoundSorts items p
-sound_args items e op args ps is given sound p c =
-    let parts : parts_of e ≡ ps = ap parts_in (out_apply e.node op ps (is ∙ ap (λ x. nodes.Apply op x) (sym given))) in
-    sound_part items e p (subst (λ xs. Contains xs p) (sym parts) c) sound
-
-sound_at : (items : List Declaration) (e x : Term) → IsPart e x → HasSoundSort items (layer_of e) → ((p : Term) → Contains (parts_of e) p → HasSoundSorts items p) → HasSoundSort items (layer_of x)
-sound_at items e x (itself _ _ same) node parts = subst (λ y. HasSoundSort items (layer_of y)) (sym same) node
-sound_at items e x (inside _ _ p c rest) node parts = parts p c x rest
-
-pub sound_by : (items : List Declaration) (e : Term) → HasSoundSort items (layer_of e) → ((p : Term) → Contains (parts_of e) p → HasSoundSorts items p) → HasSoundSorts items e
-sound_by items e node parts x part = sound_at items e x part node parts
-
--- a test of the sort that a node writes, where the node has no parts
-pub sound_leaf : (items : List Declaration) (e : Term) (l : Layer) → layer_of e ≡ l → parts_in l ≡ [] → (b : Bool) → IsTrue b ↔ HasSoundSort items l → IsTrue b ↔ HasSoundSorts items e
-sound_leaf items e l is alone b test = (
-  λ h. sound_by items e (subst (HasSoundSort items) (sym is) (test.0 h)) (λ p c. absurd (contains_nil p (subst (λ xs. Contains xs p) (ap parts_in is ∙ alone) c))),
-  λ h. test.1 (subst (HasSoundSort items) is (h e (itself e e refl))),
-)
-
--- a test of the sorts that the parts write, where the node writes none
-pub sound_node : (items : List Declaration) (e : Term) (l : Layer) → layer_of e ≡ l → HasSoundSort items l → (b : Bool) → IsTrue b ↔ ((p : Term) → Contains (parts_in l) p → HasSoundSorts items p) → IsTrue b ↔ HasSoundSorts items e
-sound_node items e l is node b test = (
-  λ h. sound_by items e (subst (HasSoundSort items) (sym is) node) (λ p c. test.0 h p (subst (λ xs. Contains xs p) (ap parts_in is) c)),
-  λ h. test.1 (λ p c. sound_part items e p (subst (λ xs. Contains xs p) (sym (ap parts_in is)) c) h),
-)
-
-pub sound_one : (items : List Declaration) (e : Term) (name : List ℕ) (arg p : Term) → e.node ≡ nodes.PartitionOf name arg → p ≡ arg → (b : Bool) → IsTrue b ↔ HasSoundSorts items p → IsTrue b ↔ HasSoundSorts items e
-sound_one items e name arg p is given b test =
-    sound_node items e (layer.PartitionOf name p) (out_element e.node name p (is ∙ ap (λ x. nodes.PartitionOf name x) (sym given))) tt b
-    (λ h q c. subst (HasSoundSorts items) (sym (contains_one p q c)) (test.0 h), λ h. test.1 (h p (contains_first p [])))
-
-pub sound_several : (items : List Declaration) (e : Term) (op : Op) (args ps : List Term) → e.node ≡ nodes.Apply op args → ps ≡ args → (b : Bool) → IsTrue b ↔ ((p : Term) → Contains ps p → HasSoundSorts items p) → IsTrue b ↔ HasSoundSorts items e
-sound_several items e op args ps is given b test = sound_node items e (layer.Apply op ps) (out_apply e.node op ps (is ∙ ap (λ x. nodes.Apply op x) (sym given))) tt b test
-
-pub sound_all_values : (items : List Declaration) (e : Term) (x : SortExpr) → e.node ≡ nodes.All x → (b : Bool) → IsTrue b ↔ HasSoundSort items (layer.All x) → IsTrue b ↔ HasSoundSorts items e
-sound_all_values items e x is b test = sound_leaf items e (layer.All x) (out_all e.node x is) refl b test
-
-pub sound_none : (items : List Declaration) (e : Term) (x : SortExpr) → e.node ≡ nodes.Empty x → (b : Bool) → IsTrue b ↔ HasSoundSort items (layer.Empty x) → IsTrue b ↔ HasSoundSorts items e
-sound_none items e x is b test = sound_leaf items e (layer.Empty x) (out_empty e.node x is) refl b test

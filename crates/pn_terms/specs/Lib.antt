@@ -1,3 +1,4 @@
+pub mod Order
 pub mod Rows
 pub mod Sorts
 pub mod Standing

@@ -1,5 +1,5 @@
 -- What the operators ask of the sorts of their arguments, and the sorts that they give: one case for each row of their
--- table (ISO/IEC 15909-2, terms of symmetric nets).
+-- table (ISO/IEC 15909-2, terms of symmetric nets and of high-level nets).
 use Rattle.std.specs.Prelude.{◌≡◌, ◌-◌, ℕ, List, map, length, Bool, true, false, ◌&&◌, ◌||◌, ◌==◌, nat_le, Option, None, Some, slice_index_or}
 use Rattle.std.specs.List.{list_all, Contains}
 use Rattle.pn_operators.specs.declared.op.Op.{Op}
@@ -37,17 +37,27 @@ abbrev is_partition_layer : layer.Sort-F Sort → Bool
 is_partition_layer (layer.Partition place) = true
 is_partition_layer _ = false
 
+abbrev is_text_layer : layer.Sort-F Sort → Bool
+is_text_layer layer.Text = true
+is_text_layer _ = false
+
+abbrev is_list_layer : layer.Sort-F Sort → Bool
+is_list_layer (layer.List item) = true
+is_list_layer _ = false
+
 -- a cyclic enumeration
 abbrev pub is_round : List Declaration → Sort → Bool
 is_round items s = is_round_layer items (out-Sort s)
 
--- a basis sort of a family: the truth values, the integers, cyclic enumerations, ranges and enumerations, partitions, or any
+-- a basis sort of a family: the truth values, the integers, cyclic enumerations, ranges and enumerations, partitions, texts, lists, or any
 abbrev pub is_basis_in : List Declaration → Family → Sort → Bool
 is_basis_in items families.Truths s = is_truth_layer (out-Sort s)
 is_basis_in items families.Integers s = is_integer_layer (out-Sort s)
 is_basis_in items families.Rounds s = is_round items s
 is_basis_in items families.Ordered s = is_ordered_layer (out-Sort s)
 is_basis_in items families.Elements s = is_partition_layer (out-Sort s)
+is_basis_in items families.Texts s = is_text_layer (out-Sort s)
+is_basis_in items families.Lists s = is_list_layer (out-Sort s)
 is_basis_in items families.Basis s = true
 is_basis_in items families.Bags s = false
 
@@ -58,6 +68,8 @@ is_bag_in families.Integers = false
 is_bag_in families.Rounds = false
 is_bag_in families.Ordered = false
 is_bag_in families.Elements = false
+is_bag_in families.Texts = false
+is_bag_in families.Lists = false
 is_bag_in families.Basis = false
 is_bag_in families.Bags = true
 
@@ -95,6 +107,22 @@ is_counted items ts = is_in items families.Basis (last_of ts) && (length ts == 1
 abbrev pub is_scaled : List Declaration → List TermSort → Bool
 is_scaled items ts = is_in items families.Integers (first_of ts) && is_in items families.Bags (last_of ts)
 
+-- the first are the multisets over a sort, and the last is that sort
+abbrev pub HasCountIn : List TermSort → Type 0
+HasCountIn ts = (s : Sort) × (first_of ts ≡ terms.Bag s) × (last_of ts ≡ terms.Basis s)
+
+-- the first is a list, the last a number
+abbrev pub is_indexed : List Declaration → List TermSort → Bool
+is_indexed items ts = is_in items families.Lists (first_of ts) && is_in items families.Integers (last_of ts)
+
+abbrev item_in : Sort → layer.Sort-F Sort → Sort
+item_in s (layer.List item) = item
+item_in s _ = s
+
+-- the sort of the items, where this is the sort of their lists
+abbrev pub item_of : Sort → Sort
+item_of s = item_in s (out-Sort s)
+
 -- no more than the greatest number of arguments, where there is one
 abbrev pub at_most : ℕ → Option ℕ → Bool
 at_most n None = true
@@ -126,6 +154,28 @@ Suit items op.NumberOf ts = is_counted items ts ≡ true
 Suit items op.Add ts = AreIn items families.Bags ts × AreAlike ts
 Suit items op.Subtract ts = AreIn items families.Bags ts × AreAlike ts
 Suit items op.ScalarProduct ts = is_scaled items ts ≡ true
+Suit items op.Addition ts = AreIn items families.Integers ts
+Suit items op.Subtraction ts = AreIn items families.Integers ts
+Suit items op.Mult ts = AreIn items families.Integers ts
+Suit items op.Div ts = AreIn items families.Integers ts
+Suit items op.Mod ts = AreIn items families.Integers ts
+Suit items op.Lt ts = AreIn items families.Integers ts
+Suit items op.Leq ts = AreIn items families.Integers ts
+Suit items op.Gt ts = AreIn items families.Integers ts
+Suit items op.Geq ts = AreIn items families.Integers ts
+Suit items op.Cardinality ts = AreIn items families.Bags ts
+Suit items op.CardinalityOf ts = HasCountIn ts
+Suit items op.Contains ts = AreIn items families.Bags ts × AreAlike ts
+Suit items op.StringConcatenation ts = AreIn items families.Texts ts
+Suit items op.StringLength ts = AreIn items families.Texts ts
+Suit items op.Lts ts = AreIn items families.Texts ts
+Suit items op.Leqs ts = AreIn items families.Texts ts
+Suit items op.Gts ts = AreIn items families.Texts ts
+Suit items op.Geqs ts = AreIn items families.Texts ts
+Suit items op.MakeList ts = AreIn items families.Basis ts × AreAlike ts
+Suit items op.ListConcatenation ts = AreIn items families.Lists ts × AreAlike ts
+Suit items op.ListLength ts = AreIn items families.Lists ts
+Suit items op.MemberAtIndex ts = is_indexed items ts ≡ true
 
 -- the operator takes so many arguments, and they are of sorts that fit it
 pub record Fits (items : List Declaration) (o : Op) (ts : List TermSort) : Type 0 where
@@ -154,6 +204,28 @@ given_by op.NumberOf ts = terms.Bag (basis_of (last_of ts))
 given_by op.Add ts = first_of ts
 given_by op.Subtract ts = first_of ts
 given_by op.ScalarProduct ts = last_of ts
+given_by op.Addition ts = terms.Basis sorts.Integer
+given_by op.Subtraction ts = terms.Basis sorts.Integer
+given_by op.Mult ts = terms.Basis sorts.Integer
+given_by op.Div ts = terms.Basis sorts.Integer
+given_by op.Mod ts = terms.Basis sorts.Integer
+given_by op.Lt ts = terms.Basis sorts.Bool
+given_by op.Leq ts = terms.Basis sorts.Bool
+given_by op.Gt ts = terms.Basis sorts.Bool
+given_by op.Geq ts = terms.Basis sorts.Bool
+given_by op.Cardinality ts = terms.Basis sorts.Integer
+given_by op.CardinalityOf ts = terms.Basis sorts.Integer
+given_by op.Contains ts = terms.Basis sorts.Bool
+given_by op.StringConcatenation ts = terms.Basis sorts.Text
+given_by op.StringLength ts = terms.Basis sorts.Integer
+given_by op.Lts ts = terms.Basis sorts.Bool
+given_by op.Leqs ts = terms.Basis sorts.Bool
+given_by op.Gts ts = terms.Basis sorts.Bool
+given_by op.Geqs ts = terms.Basis sorts.Bool
+given_by op.MakeList ts = terms.Basis (sorts.List (basis_of (first_of ts)))
+given_by op.ListConcatenation ts = first_of ts
+given_by op.ListLength ts = terms.Basis sorts.Integer
+given_by op.MemberAtIndex ts = terms.Basis (item_of (basis_of (first_of ts)))
 
 -- where the arguments fit it is this sort that is given, else there is none
 abbrev pub IsGivenWhere : Type 0 → TermSort → Option TermSort → Type 0

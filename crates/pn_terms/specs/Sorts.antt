@@ -13,7 +13,6 @@ use Rattle.pn_carriers.specs.Sizes.{size_of}
 use Rattle.pn_names.specs.Names.{constant_named, partition_named, variable_named, widths_of}
 use Rattle.pn_resolve.specs.Meaning.{Resolves}
 use Rattle.pn_sorts.specs.Lookups.{IsBaseSort, IsVariableSort, sort_of_constant}
-use Rattle.pn_terms.specs.declared.TheConstants.{MAX_ALL}
 use Rattle.pn_syntax.specs.declared.term.NumberSort.{NumberSort}
 use Rattle.pn_syntax.specs.declared.term.NumberSort.TheVariants as numbers
 use Rattle.pn_syntax.specs.declared.term.Term.{Term}
@@ -46,10 +45,14 @@ is_good_number items value sort = is_member (widths_of items) (number_sort sort)
 abbrev pub is_in_range : List Declaration → ℤ → ℤ → ℤ → Bool
 is_in_range items value start end = is_member (widths_of items) (sorts.Range start end) (values.Int value)
 
--- a size that is within the limit
+-- a text is of the sort of texts: its characters are those that a document may have
+abbrev pub is_good_text : List Declaration → List ℕ → Bool
+is_good_text items text = is_member (widths_of items) sorts.Text (values.Text text)
+
+-- a size that is within the limit of what `all` may take, 2^20 values
 abbrev pub is_few : Option ℕ → Bool
 is_few None = false
-is_few (Some n) = nat_le n MAX_ALL
+is_few (Some n) = nat_le n 1048576
 
 -- a sort that is finite and has no more values than the limit
 abbrev pub is_small : List Declaration → Sort → Bool
@@ -62,6 +65,10 @@ IsOfAll items e s = (sort : Sort) × Resolves items e sort × (is_small items so
 -- the multisets over the kin of a sort
 abbrev pub IsOfEmpty : List Declaration → SortExpr → TermSort → Type 0
 IsOfEmpty items e s = (sort : Sort) × Resolves items e sort × (s ≡ terms.Bag (kin_of sort))
+
+-- the lists of values of the kin of a sort
+abbrev pub IsOfEmptyList : List Declaration → SortExpr → TermSort → Type 0
+IsOfEmptyList items e s = (sort : Sort) × Resolves items e sort × (s ≡ terms.Basis (sorts.List (kin_of sort)))
 
 -- the partition of this name, whose base sort the argument has
 abbrev pub IsOfElement : List Declaration → List ℕ → List TermSort → TermSort → Type 0
@@ -78,8 +85,10 @@ Gives items (layer.UserOp name) ts s = IsOfConstant items name s
 Gives items (layer.Bool truth) ts s = s ≡ terms.Basis sorts.Bool
 Gives items (layer.Number value sort) ts s = (is_good_number items value sort ≡ true) × (s ≡ terms.Basis sorts.Integer)
 Gives items (layer.RangeConst value start end) ts s = (is_in_range items value start end ≡ true) × (s ≡ terms.Basis (sorts.Range start end))
+Gives items (layer.Text text) ts s = (is_good_text items text ≡ true) × (s ≡ terms.Basis sorts.Text)
 Gives items (layer.All e) ts s = IsOfAll items e s
 Gives items (layer.Empty e) ts s = IsOfEmpty items e s
+Gives items (layer.EmptyList e) ts s = IsOfEmptyList items e s
 Gives items (layer.PartitionOf name arg) ts s = IsOfElement items name ts s
 Gives items (layer.Apply op args) ts s = IsOfOperator items op ts s
 

@@ -2,6 +2,7 @@
 use Rattle.std.specs.Prelude.{◌≡◌, ◌⊎◌, ℕ, ℤ, List, [], ◌∷◌, codes, false, None, Some}
 use Rattle.pn_faults.specs.declared.fault.Fault.{Fault}
 use Rattle.pn_faults.specs.Order.{fault_at}
+use Rattle.pn_faults.specs.Standing.{IsLeastOf}
 use Rattle.pn_faults.specs.declared.reason.Reason.TheVariants as reasons
 use Rattle.pn_syntax.specs.declared.declaration.Declaration.{Declaration}
 use Rattle.pn_values.specs.declared.sort.Sort.{Sort}
@@ -18,7 +19,7 @@ use Rattle.pn_terms.specs.declared.term_sort.TermSort.{TermSort}
 use Rattle.pn_terms.specs.declared.term_sort.TermSort.TheVariants as terms
 use Rattle.pn_syntax.specs.declared.term.TermNode.TheOpen as layer
 use Rattle.pn_terms.specs.Rows.{Fits}
-use Rattle.pn_terms.specs.Sorts.{HaveSorts, is_good_number, is_in_range, is_small}
+use Rattle.pn_terms.specs.Sorts.{HaveSorts, is_good_number, is_good_text, is_in_range, is_small}
 use Rattle.pn_terms.specs.Terms.{IsPart, Layer, layer_of, parts_of}
 
 -- no variable has this name
@@ -41,6 +42,10 @@ IsBadNumber items value sort at f = (is_good_number items value sort ≡ false) 
 abbrev pub IsOutside : List Declaration → ℤ → ℤ → ℤ → ℕ → Fault → Type 0
 IsOutside items value start end at f = (is_in_range items value start end ≡ false) × (f ≡ fault_at reasons.BadConstant at (codes "finiteintrangeconstant"))
 
+-- a text has a character that a document may not have
+abbrev pub IsBadText : List Declaration → List ℕ → ℕ → Fault → Type 0
+IsBadText items text at f = (is_good_text items text ≡ false) × (f ≡ fault_at reasons.BadConstant at (codes "stringconstant"))
+
 -- the sort of which all values are taken is infinite, or has too many
 abbrev pub IsTooLarge : List Declaration → SortExpr → ℕ → Fault → Type 0
 IsTooLarge items e at f = (sort : Sort) × Resolves items e sort × (is_small items sort ≡ false) × (f ≡ fault_at reasons.AllTooLarge at (codes "all"))
@@ -60,8 +65,10 @@ StandsAlways items (layer.UserOp name) at f = IsUnknownOperator items name at f
 StandsAlways items (layer.Bool truth) at f = ⊥
 StandsAlways items (layer.Number value sort) at f = IsBadNumber items value sort at f
 StandsAlways items (layer.RangeConst value start end) at f = IsOutside items value start end at f
+StandsAlways items (layer.Text text) at f = IsBadText items text at f
 StandsAlways items (layer.All e) at f = IsTooLarge items e at f
 StandsAlways items (layer.Empty e) at f = ⊥
+StandsAlways items (layer.EmptyList e) at f = ⊥
 StandsAlways items (layer.PartitionOf name arg) at f = IsUnknownPartition items name at f
 StandsAlways items (layer.Apply op args) at f = ⊥
 
@@ -72,8 +79,10 @@ StandsWith items (layer.UserOp name) ts at f = ⊥
 StandsWith items (layer.Bool truth) ts at f = ⊥
 StandsWith items (layer.Number value sort) ts at f = ⊥
 StandsWith items (layer.RangeConst value start end) ts at f = ⊥
+StandsWith items (layer.Text text) ts at f = ⊥
 StandsWith items (layer.All e) ts at f = ⊥
 StandsWith items (layer.Empty e) ts at f = ⊥
+StandsWith items (layer.EmptyList e) ts at f = ⊥
 StandsWith items (layer.PartitionOf name arg) ts at f = IsWrongElement items name ts at f
 StandsWith items (layer.Apply op args) ts at f = IsWrongFor items op ts at f
 
@@ -85,18 +94,24 @@ StandsAt items e f = StandsAlways items (layer_of e) e.at f ⊎ ((ts : List Term
 abbrev pub StandsIn : List Declaration → Term → Fault → Type 0
 StandsIn items e f = (x : Term) × IsPart e x × StandsAt items x f
 
--- no fault stands in the sort that a layer writes
-abbrev pub HasSoundSort : List Declaration → Layer → Type 0
-HasSoundSort items (layer.Variable name) = Unit {0}
-HasSoundSort items (layer.UserOp name) = Unit {0}
-HasSoundSort items (layer.Bool truth) = Unit {0}
-HasSoundSort items (layer.Number value sort) = Unit {0}
-HasSoundSort items (layer.RangeConst value start end) = Unit {0}
-HasSoundSort items (layer.All e) = (f : Fault) → SortFault items e f → ⊥
-HasSoundSort items (layer.Empty e) = (f : Fault) → SortFault items e f → ⊥
-HasSoundSort items (layer.PartitionOf name arg) = Unit {0}
-HasSoundSort items (layer.Apply op args) = Unit {0}
+-- the sort that a layer writes has this fault
+abbrev pub SortStandsAt : List Declaration → Layer → Fault → Type 0
+SortStandsAt items (layer.Variable name) f = ⊥
+SortStandsAt items (layer.UserOp name) f = ⊥
+SortStandsAt items (layer.Bool truth) f = ⊥
+SortStandsAt items (layer.Number value sort) f = ⊥
+SortStandsAt items (layer.RangeConst value start end) f = ⊥
+SortStandsAt items (layer.Text text) f = ⊥
+SortStandsAt items (layer.All e) f = SortFault items e f
+SortStandsAt items (layer.Empty e) f = SortFault items e f
+SortStandsAt items (layer.EmptyList e) f = SortFault items e f
+SortStandsAt items (layer.PartitionOf name arg) f = ⊥
+SortStandsAt items (layer.Apply op args) f = ⊥
+
+-- a sort that the term or a term in it writes has this fault
+abbrev pub SortStandsIn : List Declaration → Term → Fault → Type 0
+SortStandsIn items e f = (x : Term) × IsPart e x × SortStandsAt items (layer_of x) f
 
 -- no fault stands in the sorts that a term writes
 abbrev pub HasSoundSorts : List Declaration → Term → Type 0
-HasSoundSorts items e = (x : Term) → IsPart e x → HasSoundSort items (layer_of x)
+HasSoundSorts items e = IsLeastOf (SortStandsIn items e) None

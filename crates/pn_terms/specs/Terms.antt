@@ -16,8 +16,10 @@ parts_in (layer.UserOp name) = []
 parts_in (layer.Bool truth) = []
 parts_in (layer.Number value sort) = []
 parts_in (layer.RangeConst value start end) = []
+parts_in (layer.Text text) = []
 parts_in (layer.All sort) = []
 parts_in (layer.Empty sort) = []
+parts_in (layer.EmptyList sort) = []
 parts_in (layer.PartitionOf partition arg) = arg ∷ []
 parts_in (layer.Apply op args) = args
 

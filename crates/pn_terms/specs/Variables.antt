@@ -15,8 +15,10 @@ variables_in_layer items (layer.UserOp name) = []
 variables_in_layer items (layer.Bool truth) = []
 variables_in_layer items (layer.Number value sort) = []
 variables_in_layer items (layer.RangeConst value start end) = []
+variables_in_layer items (layer.Text text) = []
 variables_in_layer items (layer.All sort) = []
 variables_in_layer items (layer.Empty sort) = []
+variables_in_layer items (layer.EmptyList sort) = []
 variables_in_layer items (layer.PartitionOf partition arg) = arg
 variables_in_layer items (layer.Apply op args) = flat_map (λ vs. vs) args
 

@@ -22,6 +22,10 @@ pub(crate) enum Family {
     Ordered,
     /// Partitions.
     Elements,
+    /// Texts.
+    Texts,
+    /// Lists.
+    Lists,
     /// All that are no multisets.
     Basis,
     /// Multisets.
@@ -38,6 +42,8 @@ fn is_basis_in(decls: &Decls, family: Family, sort: &Sort) -> bool
         Family::Rounds => is_round(decls, sort),
         Family::Ordered => matches!(sort, Sort::Enumeration(_) | Sort::Range { .. }),
         Family::Elements => matches!(sort, Sort::Partition(_)),
+        Family::Texts => matches!(sort, Sort::Text),
+        Family::Lists => matches!(sort, Sort::List(_)),
         Family::Basis => true,
         Family::Bags => false,
     }

@@ -1,7 +1,9 @@
 //! The laws of sorts of terms. A function here does nothing; its contract is the law.
 
-ghost use Rattle.std.specs.Prelude.{◌≡◌, List};
+ghost use Rattle.std.specs.Prelude.{◌≡◌, List, Some};
 ghost use Rattle.pn_faults.specs.declared.fault.Fault.{Fault};
+ghost use Rattle.pn_faults.specs.Standing.{IsLeastOf};
+ghost use Rattle.pn_terms.specs.Order.{IsOrdered};
 ghost use Rattle.pn_terms.specs.Sorts.{HasSort};
 ghost use Rattle.pn_terms.specs.Standing.{StandsIn};
 ghost use Rattle.pn_syntax.specs.declared.term.Term.{Term};
@@ -16,4 +18,9 @@ pub fn a_term_has_one_sort()
 /// Where a term has a sort, no fault stands in it.
 pub fn what_has_a_sort_has_no_fault()
     ensures { (items : List Declaration) (e : Term) (s : TermSort) (f : Fault) → HasSort items e s → StandsIn items e f → ⊥ }
+{}
+
+/// In a term whose offsets rise in document order the least fault is one.
+pub fn the_least_fault_is_one()
+    ensures { (items : List Declaration) (e : Term) (f g : Fault) → IsOrdered e → IsLeastOf (StandsIn items e) (Some f) → IsLeastOf (StandsIn items e) (Some g) → f ≡ g }
 {}

@@ -1,4 +1,4 @@
-//! Terms of symmetric nets, and their sorts (ISO/IEC 15909-2, terms).
+//! Terms of symmetric nets and of high-level nets, and their sorts (ISO/IEC 15909-2, terms).
 #![tactic(auto)]
 
 mod family;
@@ -12,7 +12,7 @@ mod variable_list;
 
 pub use pn_operators::{Kind, OP_TABLE, Op, OpRow, find_op, op_name, row_of};
 pub use pn_syntax::{NumberSort, Term, TermNode};
-pub use sound::has_sound_sorts;
+pub use sound::sort_fault;
 pub use term_sort::TermSort;
 pub use typing::sort_of;
 pub use variable_list::variables;

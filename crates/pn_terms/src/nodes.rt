@@ -8,8 +8,8 @@ ghost use Rattle.pn_resolve.specs.Meaning.{Resolves};
 ghost use Rattle.pn_resolve.specs.Standing.{StandsInSort};
 ghost use Rattle.pn_sorts.specs.Standing.{IsFaultless};
 ghost use Rattle.pn_sorts.specs.Lookups.{IsBaseSort, base_expr};
-ghost use Rattle.pn_terms.specs.Sorts.{IsOfAll, IsOfConstant, IsOfElement, IsOfEmpty, IsOfOperator, IsOfVariable, is_good_number, is_in_range, is_small, number_sort};
-ghost use Rattle.pn_terms.specs.Standing.{IsBadNumber, IsOutside, IsTooLarge, IsUnknownOperator, IsUnknownPartition, IsUnknownVariable, IsWrongElement, IsWrongFor};
+ghost use Rattle.pn_terms.specs.Sorts.{IsOfAll, IsOfConstant, IsOfElement, IsOfEmpty, IsOfEmptyList, IsOfOperator, IsOfVariable, is_good_number, is_good_text, is_in_range, is_small, number_sort};
+ghost use Rattle.pn_terms.specs.Standing.{IsBadNumber, IsBadText, IsOutside, IsTooLarge, IsUnknownOperator, IsUnknownPartition, IsUnknownVariable, IsWrongElement, IsWrongFor};
 ghost use Rattle.pn_terms.specs.declared.term_sort.TermSort.{TermSort};
 ghost use Rattle.pn_values.specs.declared.sort.Sort.{Sort};
 
@@ -19,6 +19,8 @@ use pn_faults::keep_least_at;
 use pn_operators::{Op, op_name};
 use pn_sorts::{Decls, Fault, Reason, Refusal, Size, Sort, Value};
 use pn_syntax::SortExpr;
+use pn_text::Text;
+use sqlite_items::Boxed;
 use std::alloc::{AllocError, Global};
 
 /// A variable has the kin of its sort.
@@ -119,6 +121,32 @@ pub(crate) fn range(
     Ok(None)
 }
 
+/// A text of characters that a document may have has the sort of texts.
+pub(crate) fn text(
+    alloc: Global,
+    decls: &Decls,
+    at: u64,
+    text: &Text,
+    least: &mut Option<Fault>,
+) -> Result<Option<TermSort>, AllocError>
+    ensures { IfOk result (λ o. IsTold (λ s. (is_good_text decls.now text.now ≡ true) × (s ≡ TermSort.Basis Sort.Text))
+        (IsBadText decls.now text.now at) o least.old least.new) }
+{
+    if is_good_text(alloc, decls, text)? {
+        return Ok(Some(TermSort::Basis(Sort::Text)));
+    }
+    keep_least_at(least, alloc, Reason::BadConstant, at, "stringconstant")?;
+    Ok(None)
+}
+
+/// Whether all characters of a text are those that a document may have.
+fn is_good_text(alloc: Global, decls: &Decls, text: &Text) -> Result<bool, AllocError>
+    ensures { IfOk result (λ b. b ≡ is_good_text decls.now text.now) }
+{
+    let value = Value::Text(text.copy(alloc)?);
+    Ok(decls.has_value(&Sort::Text, &value))
+}
+
 /// The sort of an expression without a fault.
 fn resolved(alloc: Global, decls: &Decls, expr: &SortExpr) -> Result<Sort, AllocError>
     requires faultless { IsFaultless decls.now }
@@ -170,6 +198,21 @@ pub(crate) fn empty(alloc: Global, decls: &Decls, expr: &SortExpr) -> Result<Ter
 {
     let sort = resolved(alloc, decls, expr)?;
     Ok(TermSort::Bag(sort.kin(alloc)?))
+}
+
+/// The empty list of a sort is one of its kin.
+pub(crate) fn empty_list(
+    alloc: Global,
+    decls: &Decls,
+    expr: &SortExpr,
+) -> Result<TermSort, AllocError>
+    requires faultless { IsFaultless decls.now }
+    requires sound { (f : Fault) → StandsInSort decls.now expr.now f → ⊥ }
+    ensures { IfOk result (IsOfEmptyList decls.now expr.now) }
+{
+    let sort = resolved(alloc, decls, expr)?;
+    let item = sort.kin(alloc)?;
+    Ok(TermSort::Basis(Sort::List(Boxed::new(alloc, item)?)))
 }
 
 /// Whether a sort is the base sort of the partition at this place.

@@ -12,7 +12,8 @@ ghost use Rattle.pn_terms.specs.Standing.{HasSoundSorts, StandsIn};
 ghost use Rattle.pn_syntax.specs.declared.term.Term.{Term};
 
 use crate::nodes::{
-    all, applied, constant, element, empty, keep_partition, number, range, variable,
+    all, applied, constant, element, empty, empty_list, keep_partition, number, range, text,
+    variable,
 };
 use crate::{Term, TermNode, TermSort};
 use pn_sorts::{Decls, Fault, Refusal, Sort};
@@ -68,8 +69,10 @@ fn walk(
         TermNode::RangeConst { value, start, end } => {
             range(alloc, decls, at, value, start, end, least)
         }
+        TermNode::Text(value) => text(alloc, decls, at, value, least),
         TermNode::All(sort) => all(alloc, decls, at, sort, least),
         TermNode::Empty(sort) => Ok(Some(empty(alloc, decls, sort)?)),
+        TermNode::EmptyList(sort) => Ok(Some(empty_list(alloc, decls, sort)?)),
         TermNode::PartitionOf { partition, arg } => {
             match walk(alloc, decls, arg.get(), least)? {
                 Some(sort) => element(alloc, decls, at, partition.as_str(), &sort, least),

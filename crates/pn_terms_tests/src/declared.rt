@@ -43,11 +43,11 @@ fn put_sorts(alloc: Global, items: &mut Vec<Declaration>) -> Result<(), AllocErr
     put_partition(alloc, items, "t", "f", &[("ta", "f1"), ("tb", "f2")])
 }
 
-/// The names of the range that `all` may just take, of the next, and of the integers.
+/// The names of the range that `all` may just take, of the next, and of the natural numbers.
 fn put_names(alloc: Global, items: &mut Vec<Declaration>) -> Result<(), AllocError> {
     put_range(alloc, items, "most", 1048576)?;
     put_range(alloc, items, "more", 1048577)?;
-    add_sort(alloc, items, "integers", 0, sort(0, SortNode::Integer))
+    add_sort(alloc, items, "naturals", 0, sort(0, SortNode::Natural))
 }
 
 /// The variables x of c, y of f and n of the natural numbers.
@@ -57,7 +57,8 @@ fn put_variables(alloc: Global, items: &mut Vec<Declaration>) -> Result<(), Allo
     add_variable(alloc, items, "n", 0, sort(0, SortNode::Natural))
 }
 
-fn put_all(alloc: Global, items: &mut Vec<Declaration>) -> Result<(), AllocError> {
+/// Enters all of them.
+pub(crate) fn put_all(alloc: Global, items: &mut Vec<Declaration>) -> Result<(), AllocError> {
     put_sorts(alloc, items)?;
     put_names(alloc, items)?;
     put_variables(alloc, items)

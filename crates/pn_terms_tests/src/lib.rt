@@ -15,6 +15,6 @@ mod sorted;
 #[cfg(test)]
 mod syntax;
 #[cfg(test)]
-mod tokens;
-#[cfg(test)]
 mod values;
+#[cfg(test)]
+mod written;

@@ -1,82 +1,111 @@
 //! What no clause says of operators: the table as the documents of nets write it.
 
-use pn_operators::{Kind, OP_TABLE, Op, find_op, laws, op_name, row_of};
+use pn_operators::{Kind, Op, find_op, laws, op_name, row_of};
 use std::process::Abort;
 use std::test::Fail;
 
-const FOUND: [(&str, Kind, Option<Op>); 6] = [
-    ("successor", Kind::Symmetric, Some(Op::Successor)),
-    ("successor", Kind::HighLevel, Some(Op::Successor)),
-    ("successor", Kind::PtNet, None),
-    ("addition", Kind::Symmetric, None),
-    ("Successor", Kind::Symmetric, None),
-    ("", Kind::Symmetric, None),
-];
+/// The rows in order: the name, the first kind of nets, the least and the greatest number of
+/// arguments.
+const ROWS: &str = "\
+dotconstant symmetric 0 0
+and symmetric 1 any
+or symmetric 1 any
+not symmetric 1 1
+imply symmetric 2 2
+equality symmetric 2 2
+inequality symmetric 2 2
+successor symmetric 1 1
+predecessor symmetric 1 1
+lessthan symmetric 2 2
+lessthanorequal symmetric 2 2
+greaterthan symmetric 2 2
+greaterthanorequal symmetric 2 2
+ltp symmetric 2 2
+gtp symmetric 2 2
+tuple symmetric 1 any
+numberof symmetric 1 2
+add symmetric 1 any
+subtract symmetric 2 any
+scalarproduct symmetric 2 2
+addition high-level 2 2
+subtraction high-level 2 2
+mult high-level 2 2
+div high-level 2 2
+mod high-level 2 2
+lt high-level 2 2
+leq high-level 2 2
+gt high-level 2 2
+geq high-level 2 2
+cardinality high-level 1 1
+cardinalityof high-level 2 2
+contains high-level 2 2
+stringconcatenation high-level 2 2
+stringlength high-level 1 1
+lts high-level 2 2
+leqs high-level 2 2
+gts high-level 2 2
+geqs high-level 2 2
+makelist high-level 1 any
+listconcatenation high-level 2 2
+listlength high-level 1 1
+memberatindex high-level 2 2";
 
-const NAMES: [&str; 20] = [
-    "dotconstant",
-    "and",
-    "or",
-    "not",
-    "imply",
-    "equality",
-    "inequality",
-    "successor",
-    "predecessor",
-    "lessthan",
-    "lessthanorequal",
-    "greaterthan",
-    "greaterthanorequal",
-    "ltp",
-    "gtp",
-    "tuple",
-    "numberof",
-    "add",
-    "subtract",
-    "scalarproduct",
-];
+fn is_most(word: &str, most: Option<usize>) -> bool {
+    match most {
+        Some(most) => word.parse() == Ok(most),
+        None => word == "any",
+    }
+}
 
-const NUMBERS: [(Op, usize, Option<usize>); 14] = [
-    (Op::DotConstant, 0, Some(0)),
-    (Op::And, 1, None),
-    (Op::Or, 1, None),
-    (Op::Not, 1, Some(1)),
-    (Op::Imply, 2, Some(2)),
-    (Op::Inequality, 2, Some(2)),
-    (Op::Predecessor, 1, Some(1)),
-    (Op::GreaterThanOrEqual, 2, Some(2)),
-    (Op::Gtp, 2, Some(2)),
-    (Op::Tuple, 1, None),
-    (Op::NumberOf, 1, Some(2)),
-    (Op::Add, 1, None),
-    (Op::Subtract, 2, None),
-    (Op::ScalarProduct, 2, Some(2)),
-];
+/// Whether the row of an operator has these numbers of arguments.
+fn has_numbers(op: Op, least: &str, most: &str) -> bool {
+    let row = row_of(op);
+    least.parse() == Ok(row.least) && is_most(most, row.most)
+}
+
+/// Whether an operator is found in nets of the kind and in high-level nets alone.
+fn is_found(name: &str, kind: &str) -> bool {
+    let is_symmetric = kind == "symmetric";
+    find_op(name, Kind::Symmetric).is_some() == is_symmetric && find_op(name, Kind::PtNet).is_none()
+}
+
+/// Whether a row is that of the operator at this place.
+fn is_row(place: usize, row: &str) -> bool {
+    let mut words = row.split(' ');
+    let (Some(name), Some(kind), Some(least), Some(most)) = (
+        words.next(),
+        words.next(),
+        words.next(),
+        words.next(),
+    ) else {
+        return false;
+    };
+    match find_op(name, Kind::HighLevel) {
+        Some(op) => {
+            op as usize == place
+                && op_name(op) == name
+                && is_found(name, kind)
+                && has_numbers(op, least, most)
+        }
+        None => false,
+    }
+}
+
+#[test]
+fn rows_in_order(rt: HostRuntime) -> Result<(), Fail> {
+    for (place, row) in ROWS.lines().enumerate() {
+        assert!(rt; is_row(place, row));
+    }
+    assert_eq!(rt; ROWS.lines().count(), 42);
+    Ok(())
+}
 
 #[test]
 fn found_by_name(rt: HostRuntime) -> Result<(), Fail> {
-    for (name, kind, op) in &FOUND {
-        assert_eq!(rt; find_op(name, *kind), *op);
-    }
-    Ok(())
-}
-
-#[test]
-fn names_in_order(rt: HostRuntime) -> Result<(), Fail> {
-    for i in 0..20 {
-        assert_eq!(rt; OP_TABLE[i].name, NAMES[i]);
-        assert_eq!(rt; op_name(OP_TABLE[i].op), NAMES[i]);
-    }
-    Ok(())
-}
-
-#[test]
-fn numbers_of_arguments(rt: HostRuntime) -> Result<(), Fail> {
-    for (op, least, most) in &NUMBERS {
-        let row = row_of(*op);
-        assert_eq!(rt; (row.least, row.most), (*least, *most));
-        assert_eq!(rt; row.from, Kind::Symmetric);
-    }
+    assert_eq!(rt; find_op("Successor", Kind::Symmetric), None);
+    assert_eq!(rt; find_op("", Kind::HighLevel), None);
+    assert!(rt; Kind::HighLevel.has(Kind::Symmetric));
+    assert!(rt; !Kind::Symmetric.has(Kind::HighLevel));
     laws::names_are_one_to_one();
     Ok(())
 }

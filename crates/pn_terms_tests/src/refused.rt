@@ -2,239 +2,281 @@
 
 ghost use Rattle.pn_sorts.specs.Standing.{IsFaultless};
 
-use crate::declared::declared;
 use crate::sorted::typed;
-use crate::tokens::{ALL, AND, BAD, C1, FIVE, N, QA, SUCCESSOR, TWO, Token, X, Y};
-use pn_sorts::{Decls, Fault, Reason, Refusal};
-use pn_terms::{NumberSort, Op};
+use pn_sorts::{Decls, Fault, Refusal};
 use std::alloc::Global;
 use std::process::Abort;
-use std::test::Fail;
 
-/// The nodes of a term of a wrong sort, and the detail of its fault.
-type Wrong = (&'static [Token], &'static str);
+/// Each row that asks for an argument, with one argument too few.
+const TOO_FEW: &str = "\
+and/0
+or/0
+not/0
+imply/1 true
+equality/1 variable:x
+inequality/1 variable:x
+successor/0
+predecessor/0
+lessthan/1 variable:x
+lessthanorequal/1 variable:x
+greaterthan/1 variable:x
+greaterthanorequal/1 variable:x
+ltp/1 constant:qa
+gtp/1 constant:qa
+tuple/0
+numberof/0
+add/0
+subtract/1 all:c
+scalarproduct/1 positive:2
+addition/1 variable:n
+subtraction/1 variable:n
+mult/1 variable:n
+div/1 variable:n
+mod/1 variable:n
+lt/1 variable:n
+leq/1 variable:n
+gt/1 variable:n
+geq/1 variable:n
+cardinality/0
+cardinalityof/1 all:c
+contains/1 all:c
+stringconcatenation/1 text:a
+stringlength/0
+lts/1 text:a
+leqs/1 text:a
+gts/1 text:a
+geqs/1 text:a
+makelist/0
+listconcatenation/1 emptylist:c
+listlength/0
+memberatindex/1 emptylist:c";
 
-/// The nodes of a term, and its least fault: the reason, the offset and the detail.
-type Refused = (&'static [Token], Reason, u64, &'static str);
+/// Each row with a greatest number of arguments, with one argument too many.
+const TOO_MANY: &str = "\
+dotconstant/1 true
+not/2 true true
+imply/3 true true true
+equality/3 variable:x variable:x variable:x
+inequality/3 variable:x variable:x variable:x
+successor/2 variable:x variable:x
+predecessor/2 variable:x variable:x
+lessthan/3 variable:x variable:x variable:x
+lessthanorequal/3 variable:x variable:x variable:x
+greaterthan/3 variable:x variable:x variable:x
+greaterthanorequal/3 variable:x variable:x variable:x
+ltp/3 constant:qa constant:qa constant:qa
+gtp/3 constant:qa constant:qa constant:qa
+numberof/3 positive:2 positive:2 variable:x
+scalarproduct/3 positive:2 all:c all:c
+addition/3 variable:n variable:n variable:n
+subtraction/3 variable:n variable:n variable:n
+mult/3 variable:n variable:n variable:n
+div/3 variable:n variable:n variable:n
+mod/3 variable:n variable:n variable:n
+lt/3 variable:n variable:n variable:n
+leq/3 variable:n variable:n variable:n
+gt/3 variable:n variable:n variable:n
+geq/3 variable:n variable:n variable:n
+cardinality/2 all:c all:c
+cardinalityof/3 all:c variable:x variable:x
+contains/3 all:c all:c all:c
+stringconcatenation/3 text:a text:a text:a
+stringlength/2 text:a text:a
+lts/3 text:a text:a text:a
+leqs/3 text:a text:a text:a
+gts/3 text:a text:a text:a
+geqs/3 text:a text:a text:a
+listconcatenation/3 emptylist:c emptylist:c emptylist:c
+listlength/2 emptylist:c emptylist:c
+memberatindex/3 emptylist:c variable:n variable:n";
 
-const WRONG_TRUTHS: [Wrong; 12] = [
-    (
-        &[Token::Apply(Op::DotConstant, 1), Token::Truth],
-        "dotconstant",
-    ),
-    (&[Token::Apply(Op::And, 0)], "and"),
-    (&[Token::Apply(Op::And, 1), X], "and"),
-    (&[Token::Apply(Op::And, 2), Token::Truth, X], "and"),
-    (&[Token::Apply(Op::Or, 2), N, Token::Truth], "or"),
-    (&[Token::Apply(Op::Or, 2), Token::Truth, ALL], "or"),
-    (&[Token::Apply(Op::Not, 1), C1], "not"),
-    (&[Token::Apply(Op::Imply, 2), X, Token::Truth], "imply"),
-    (&[Token::Apply(Op::Imply, 2), Token::Truth, X], "imply"),
-    (&[Token::Apply(Op::Equality, 2), X, Y], "equality"),
-    (&[Token::Apply(Op::Equality, 2), X, ALL], "equality"),
-    (
-        &[Token::Apply(Op::Inequality, 2), Token::Truth, N],
-        "inequality",
-    ),
-];
+/// The rows of symmetric nets with an argument of a wrong sort.
+const WRONG_SYMMETRIC: &str = "\
+and/1 variable:x
+and/2 true variable:x
+or/2 variable:n true
+or/2 true all:c
+not/1 constant:c1
+imply/2 variable:x true
+imply/2 true variable:x
+equality/2 variable:x variable:y
+equality/2 variable:x all:c
+inequality/2 true variable:n
+successor/1 variable:y
+successor/1 all:c
+predecessor/1 constant:f1
+predecessor/1 range:3,1,5
+lessthan/2 variable:y variable:x
+lessthan/2 true variable:y
+lessthan/2 variable:n variable:n
+lessthanorequal/2 range:3,1,5 range:3,1,6
+lessthanorequal/2 variable:x range:3,1,5
+greaterthan/2 variable:x true
+greaterthan/2 true true
+greaterthanorequal/2 constant:qa constant:qa
+ltp/2 constant:qa constant:ta
+ltp/2 variable:x constant:qa
+gtp/2 constant:c1 constant:c1
+gtp/2 constant:qa all:c
+tuple/1 all:c
+tuple/2 variable:x all:c
+numberof/1 all:c
+numberof/2 variable:x positive:2
+numberof/2 positive:2 all:c
+add/1 variable:x
+add/2 variable:x all:c
+add/2 all:c empty:f
+subtract/2 variable:x all:c
+subtract/2 all:c all:f
+scalarproduct/2 variable:x all:c
+scalarproduct/2 positive:2 variable:x";
 
-const WRONG_ORDERS: [Wrong; 17] = [
-    (&[Token::Apply(Op::Successor, 1), Y], "successor"),
-    (&[Token::Apply(Op::Successor, 1), ALL], "successor"),
-    (
-        &[Token::Apply(Op::Predecessor, 1), Token::Constant("f1")],
-        "predecessor",
-    ),
-    (&[Token::Apply(Op::Predecessor, 1), FIVE], "predecessor"),
-    (&[Token::Apply(Op::LessThan, 2), Y, X], "lessthan"),
-    (
-        &[Token::Apply(Op::LessThan, 2), Token::Truth, Y],
-        "lessthan",
-    ),
-    (
-        &[Token::Apply(Op::GreaterThan, 2), X, Token::Truth],
-        "greaterthan",
-    ),
-    (&[Token::Apply(Op::LessThan, 2), N, N], "lessthan"),
-    (
-        &[
-            Token::Apply(Op::LessThanOrEqual, 2),
-            FIVE,
-            Token::Range(3, 1, 6),
-        ],
-        "lessthanorequal",
-    ),
-    (
-        &[Token::Apply(Op::LessThanOrEqual, 2), X, FIVE],
-        "lessthanorequal",
-    ),
-    (
-        &[Token::Apply(Op::GreaterThan, 2), Token::Truth, Token::Truth],
-        "greaterthan",
-    ),
-    (
-        &[Token::Apply(Op::GreaterThanOrEqual, 2), QA, QA],
-        "greaterthanorequal",
-    ),
-    (
-        &[Token::Apply(Op::Ltp, 2), QA, Token::Constant("ta")],
-        "ltp",
-    ),
-    (&[Token::Apply(Op::Ltp, 2), X, QA], "ltp"),
-    (&[Token::Apply(Op::Gtp, 2), C1, C1], "gtp"),
-    (&[Token::Apply(Op::Gtp, 2), QA, ALL], "gtp"),
-    (&[Token::Of("q"), Y], "partitionelementof"),
-];
+/// The rows of high-level nets with an argument of a wrong sort.
+const WRONG_HIGH_LEVEL: &str = "\
+addition/2 variable:n true
+addition/2 variable:x variable:n
+subtraction/2 range:3,1,5 positive:2
+mult/2 positive:2 text:a
+div/2 all:c positive:2
+mod/2 positive:2 variable:y
+lt/2 variable:x variable:x
+leq/2 positive:2 range:3,1,5
+gt/2 text:a text:b
+geq/2 true positive:2
+cardinality/1 variable:x
+cardinality/1 emptylist:c
+cardinalityof/2 all:c variable:y
+cardinalityof/2 variable:x all:c
+cardinalityof/2 all:c all:c
+cardinalityof/2 variable:x variable:x
+contains/2 all:c empty:f
+contains/2 all:c variable:x
+contains/2 variable:x variable:x
+stringconcatenation/2 text:a variable:n
+stringconcatenation/2 emptylist:c emptylist:c
+stringlength/1 variable:n
+stringlength/1 emptylist:c
+lts/2 positive:2 positive:2
+leqs/2 text:a variable:x
+gts/2 variable:x text:a
+geqs/2 true true
+makelist/2 variable:x variable:y
+makelist/1 all:c
+makelist/2 variable:x all:c
+listconcatenation/2 emptylist:c emptylist:f
+listconcatenation/2 emptylist:c variable:x
+listconcatenation/2 text:a text:b
+listlength/1 text:a
+listlength/1 all:c
+memberatindex/2 emptylist:c variable:x
+memberatindex/2 variable:n emptylist:c
+memberatindex/2 text:a positive:2
+memberatindex/2 all:c positive:2";
 
-const WRONG_MULTISETS: [Wrong; 16] = [
-    (&[Token::Apply(Op::Tuple, 1), ALL], "tuple"),
-    (&[Token::Apply(Op::Tuple, 2), ALL, X], "tuple"),
-    (&[Token::Apply(Op::Tuple, 2), X, ALL], "tuple"),
-    (&[Token::Apply(Op::NumberOf, 1), ALL], "numberof"),
-    (&[Token::Apply(Op::NumberOf, 2), X, TWO], "numberof"),
-    (&[Token::Apply(Op::NumberOf, 2), TWO, ALL], "numberof"),
-    (&[Token::Apply(Op::NumberOf, 3), TWO, TWO, X], "numberof"),
-    (&[Token::Apply(Op::Add, 1), X], "add"),
-    (&[Token::Apply(Op::Add, 2), X, ALL], "add"),
-    (&[Token::Apply(Op::Add, 2), ALL, Token::Empty("f")], "add"),
-    (&[Token::Apply(Op::Subtract, 1), ALL], "subtract"),
-    (&[Token::Apply(Op::Subtract, 2), X, ALL], "subtract"),
-    (
-        &[Token::Apply(Op::Subtract, 2), ALL, Token::All("f")],
-        "subtract",
-    ),
-    (
-        &[Token::Apply(Op::ScalarProduct, 2), X, ALL],
-        "scalarproduct",
-    ),
-    (
-        &[Token::Apply(Op::ScalarProduct, 2), TWO, X],
-        "scalarproduct",
-    ),
-    (&[Token::Apply(Op::ScalarProduct, 1), ALL], "scalarproduct"),
-];
+/// Each reason.
+const REASONS: &str = "\
+variable:z has unknown variable at 0 of z
+variable:c1 has unknown variable at 0 of c1
+constant:z has unknown operator at 0 of z
+constant:x has unknown operator at 0 of x
+of:c variable:x has unknown partition at 0 of c
+positive:0 has bad constant at 0 of numberconstant
+natural:-1 has bad constant at 0 of numberconstant
+range:6,1,5 has bad constant at 0 of finiteintrangeconstant
+text:a\u{1} has bad constant at 0 of stringconstant
+text:\u{fffe} has bad constant at 0 of stringconstant
+all:more has all too large at 0 of all
+all:naturals has all too large at 0 of all
+of:q variable:y has wrong sort at 0 of partitionelementof";
 
-const REASONS: [Refused; 10] = [
-    (&[Token::Variable("z")], Reason::UnknownVariable, 0, "z"),
-    (&[Token::Variable("c1")], Reason::UnknownVariable, 0, "c1"),
-    (&[Token::Constant("z")], Reason::UnknownOperator, 0, "z"),
-    (&[Token::Constant("x")], Reason::UnknownOperator, 0, "x"),
-    (&[Token::Of("c"), X], Reason::UnknownPartition, 0, "c"),
-    (
-        &[Token::Number(0, NumberSort::Positive)],
-        Reason::BadConstant,
-        0,
-        "numberconstant",
-    ),
-    (
-        &[Token::Number(-1, NumberSort::Natural)],
-        Reason::BadConstant,
-        0,
-        "numberconstant",
-    ),
-    (
-        &[Token::Range(6, 1, 5)],
-        Reason::BadConstant,
-        0,
-        "finiteintrangeconstant",
-    ),
-    (&[Token::All("more")], Reason::AllTooLarge, 0, "all"),
-    (&[Token::All("integers")], Reason::AllTooLarge, 0, "all"),
-];
+/// The least of several faults; a fault of the sorts in a term comes before all others.
+const SEVERAL: &str = "\
+equality/2 successor/1 variable:y variable:y has wrong sort at 1 of successor
+and/2 variable:z constant:w has unknown variable at 1 of z
+of:nope variable:z has unknown partition at 0 of nope
+of:q variable:z has unknown variable at 1 of z
+and/2 successor/1 variable:y positive:0 has wrong sort at 1 of successor
+and/2 positive:0 successor/1 variable:y has bad constant at 1 of numberconstant
+listlength/1 memberatindex/2 emptylist:c true has wrong sort at 1 of memberatindex
+equality/2 variable:z emptylist:nope has unknown sort at 7 of nope
+contains/2 all:nope empty:none has unknown sort at 7 of nope";
 
-const SEVERAL: [Refused; 6] = [
-    (
-        &[Token::Apply(Op::Equality, 2), SUCCESSOR, Y, Y],
-        Reason::WrongSort,
-        1,
-        "successor",
-    ),
-    (
-        &[AND, Token::Variable("z"), Token::Constant("w")],
-        Reason::UnknownVariable,
-        1,
-        "z",
-    ),
-    (
-        &[Token::Of("nope"), Token::Variable("z")],
-        Reason::UnknownPartition,
-        0,
-        "nope",
-    ),
-    (
-        &[Token::Of("q"), Token::Variable("z")],
-        Reason::UnknownVariable,
-        1,
-        "z",
-    ),
-    (&[AND, SUCCESSOR, Y, BAD], Reason::WrongSort, 1, "successor"),
-    (
-        &[AND, BAD, SUCCESSOR, Y],
-        Reason::BadConstant,
-        1,
-        "numberconstant",
-    ),
-];
-
-/// Whether this is the fault.
-fn is(fault: &Fault, reason: Reason, at: u64, detail: &str) -> bool {
-    fault.reason == reason && fault.at == at && fault.detail.as_str() == detail
+/// Whether the fault has these words, this offset and this detail.
+fn is(fault: &Fault, reason: &str, at: u64, detail: &str) -> bool {
+    fault.reason.words() == reason && fault.at == at && fault.detail.as_str() == detail
 }
 
 /// Whether the term is refused for this fault.
-fn is_refused(rt: &impl Abort, alloc: Global, decls: &Decls, row: Refused) -> bool
+fn is_refused(
+    alloc: Global,
+    decls: &Decls,
+    words: &str,
+    reason: &str,
+    at: u64,
+    detail: &str,
+) -> bool
     requires { IsFaultless decls.now }
 {
-    let (tokens, reason, at, detail) = row;
-    match typed(rt, alloc, decls, tokens) {
+    match typed(alloc, decls, words) {
         Err(Refusal::Fault(fault)) => is(&fault, reason, at, detail),
         _ => false,
     }
 }
 
-/// Each of the terms is refused for its fault.
-fn are_refused(rt: &impl Abort, alloc: Global, decls: &Decls, table: &[Refused])
+/// The term of a row, and the words, the offset and the detail of its fault.
+fn parts(row: &str) -> Option<(&str, &str, u64, &str)> {
+    let (words, fault) = row.split_once(" has ")?;
+    let (reason, place) = fault.split_once(" at ")?;
+    let (at, detail) = place.split_once(" of ")?;
+    Some((words, reason, at.parse().ok()?, detail))
+}
+
+/// Whether a row tells the fault of its term.
+fn is_told(alloc: Global, decls: &Decls, row: &str) -> bool
     requires { IsFaultless decls.now }
 {
-    for row in table {
-        assert!(rt; is_refused(rt, alloc, decls, *row));
+    match parts(row) {
+        Some((words, reason, at, detail)) => is_refused(alloc, decls, words, reason, at, detail),
+        None => false,
     }
 }
 
-/// Each of the terms has a wrong sort at its first node.
-fn are_wrong(rt: &impl Abort, alloc: Global, decls: &Decls, table: &[Wrong])
+/// Each of the rows tells the fault of its term.
+fn are_told(rt: &impl Abort, alloc: Global, decls: &Decls, rows: &str)
     requires { IsFaultless decls.now }
 {
-    for (tokens, detail) in table {
-        assert!(rt; is_refused(rt, alloc, decls, (tokens, Reason::WrongSort, 0, detail)));
+    for row in rows.lines() {
+        assert!(rt; is_told(alloc, decls, row));
     }
 }
 
-fn wrong_sorts(rt: &impl Abort, alloc: Global, decls: &Decls)
+/// Whether the term has a wrong sort at its operator.
+fn is_wrong(alloc: Global, decls: &Decls, words: &str) -> bool
     requires { IsFaultless decls.now }
 {
-    are_wrong(rt, alloc, decls, &WRONG_TRUTHS);
-    are_wrong(rt, alloc, decls, &WRONG_ORDERS);
-    are_wrong(rt, alloc, decls, &WRONG_MULTISETS);
+    match words.split_once('/') {
+        Some((name, _)) => is_refused(alloc, decls, words, "wrong sort", 0, name),
+        None => false,
+    }
 }
 
-fn each_reason_and_the_least(rt: &impl Abort, alloc: Global, decls: &Decls)
+/// Each of the terms has a wrong sort at its operator.
+fn are_wrong(rt: &impl Abort, alloc: Global, decls: &Decls, rows: &str)
     requires { IsFaultless decls.now }
 {
-    are_refused(rt, alloc, decls, &REASONS);
-    are_refused(rt, alloc, decls, &SEVERAL);
+    for words in rows.lines() {
+        assert!(rt; is_wrong(alloc, decls, words));
+    }
 }
 
-fn each_fault(rt: &impl Abort, alloc: Global, decls: &Decls)
+/// Each row of each table.
+pub(crate) fn each_fault(rt: &impl Abort, alloc: Global, decls: &Decls)
     requires { IsFaultless decls.now }
 {
-    wrong_sorts(rt, alloc, decls);
-    each_reason_and_the_least(rt, alloc, decls);
-}
-
-#[test]
-fn faults_of_terms(rt: HostRuntime) -> Result<(), Fail> {
-    let decls = declared(&rt, rt.alloc())?;
-    each_fault(&rt, rt.alloc(), &decls);
-    Ok(())
+    are_wrong(rt, alloc, decls, TOO_FEW);
+    are_wrong(rt, alloc, decls, TOO_MANY);
+    are_wrong(rt, alloc, decls, WRONG_SYMMETRIC);
+    are_wrong(rt, alloc, decls, WRONG_HIGH_LEVEL);
+    are_told(rt, alloc, decls, REASONS);
+    are_told(rt, alloc, decls, SEVERAL);
 }
