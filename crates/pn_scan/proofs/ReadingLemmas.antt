@@ -1,5 +1,5 @@
 -- What a scanner was fed, one byte after another.
-use Rattle.std.proofs.Common.{◌≡◌, ◌⊎◌, inl, inr, ℕ, suc, ◌+◌, ◌<◌, ◌≤◌, true, false, List, [], ◌∷◌, ◌++◌, length, length-append, take, drop, Option, Some, None, Err, refl, sym, ap, ◌∙◌, subst, arith}
+use Rattle.std.proofs.Common.{◌≡◌, ◌⊎◌, inl, inr, ℕ, suc, ◌+◌, ◌<◌, ◌≤◌, true, false, List, [], ◌∷◌, ◌++◌, length, length-append, take, drop, Option, Some, None, MatchResult, Result, Ok, Err, refl, sym, ap, ◌∙◌, subst, arith}
 use Rattle.std.proofs.lemmas.List.{take-append-le, take-append-drop, take-take}
 use Rattle.std.proofs.lemmas.Bool.{cases_lt}
 use Rattle.std.proofs.Math.Seq.{take-length}
@@ -193,3 +193,10 @@ end_front tree context opened count b r e = record {
   front = fed_front (state_of (nesting_of tree) context) (open_bytes opened) b r.fed;
   none = λ t d. let f = fed_document (state_of (nesting_of tree) context) (open_bytes opened) b t r.fed d in e t f.0 f.1;
 }
+
+-- the end is never want of memory
+pub no_memory_wanted : {T : Type 0} → (r : Result T ScanFault) (P : T → Type 0) (Q : Type 0) (n : ℕ) → MatchResult r P (λ f. (f ≡ Broken n) × Q) → IsMemory r → ⊥
+no_memory_wanted (Ok t) P Q n h m = m
+no_memory_wanted (Err (Memory e)) P Q n h m = let is : Memory e ≡ Broken n = h.0 in cc
+no_memory_wanted (Err (Broken k)) P Q n h m = m
+no_memory_wanted (Err TooLong) P Q n h m = m

@@ -55,7 +55,7 @@ answer_of None = Ok tt
 answer_of (Some f) = Err f
 
 -- memory was wanted
-abbrev pub IsMemory : Result (Unit {0}) ScanFault → Type 0
+abbrev pub IsMemory : {T : Type 0} → Result T ScanFault → Type 0
 IsMemory (Ok u) = ⊥
 IsMemory (Err (Memory e)) = Unit {0}
 IsMemory (Err (Broken k)) = ⊥

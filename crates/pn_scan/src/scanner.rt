@@ -279,13 +279,15 @@ impl Scanner {
     }
 
     /// The tree that all bytes spell, or `Broken` with their number where they begin a document
-    /// and are none. A fault of `feed` is answered again.
+    /// and are none. A fault of `feed` is answered again. Takes no memory, so where `feed` answered
+    /// no fault this never answers `Memory`.
     pub fn finish(self) -> Result<Tree, ScanFault>
         requires { (b : List ℕ) × HasRead self b }
         ensures again { (f : ScanFault) → fault_of self ≡ Some f → result ≡ Err f }
         ensures ends { (b : List ℕ) → fault_of self ≡ None → HasRead self b
             → MatchResult result (λ t. IsDocument t b) (λ f. (f ≡ ScanFault.Broken (length b)) × IsOnlyFront b) }
         ensures ordered { IfOk result HasRisingOffsets }
+        ensures no_memory { fault_of self ≡ None → IsMemory result → ⊥ }
     {
         match self.fault {
             Some(fault) => {
