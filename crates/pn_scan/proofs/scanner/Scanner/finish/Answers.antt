@@ -8,5 +8,5 @@ pub returns-in-None-clause-no_memory : goal.returns-in-None-clause-no_memory
 returns-in-None-clause-no_memory c none =
     let s = c.args.self in
     let b = c.requires.0 in
-    let read = subst (λ o. HasReadTo o s.tree s.context s.opened s.count b) none c.requires.1 in
+    let read = subst (λ o. HasReadTo o s.tree s.kept s.context s.opened s.count b) none c.requires.1 in
     no_memory_wanted c.end.result (λ t. IsDocument t b) (IsOnlyFront b) (length b) (c.end.ensures.ends b read)
