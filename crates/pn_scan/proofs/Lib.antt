@@ -18,6 +18,8 @@ pub mod OutsideLaws
 pub mod RunLaws
 pub mod MarkupLaws
 pub mod NextStateLaw
+pub mod AttributeNameLemmas
+pub mod NameLemmas
 pub mod OpenTreeLemmas
 pub mod NextStateLemmas
 pub mod CharacterLemmas

@@ -3,6 +3,7 @@ pub mod Rest
 pub mod NextState
 pub mod Characters
 pub mod Viable
+pub mod Names
 pub mod Nestings
 pub mod Contexts
 pub mod Open

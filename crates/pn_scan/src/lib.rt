@@ -9,6 +9,7 @@ mod context;
 mod declaration;
 pub mod laws;
 mod misc;
+mod names;
 mod open_tree;
 mod ordinary;
 mod reference;
