@@ -34,3 +34,4 @@ pub mod ReachLemmas
 pub mod ContextLemmas
 pub mod ReadingLemmas
 pub mod OrdinaryLemmas
+pub mod KindLemmas

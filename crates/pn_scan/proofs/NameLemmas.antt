@@ -1,14 +1,12 @@
 -- Names that are kept one behind the other.
-use Rattle.std.proofs.Common.{◌≡◌, ℕ, zero, suc, ◌+◌, add-zero, add-one, ◌-◌, ◌<◌, ◌≤◌, Bool, true, false, cond, ◌||◌, List, [], ◌∷◌, ◌++◌, append-nil, append_assoc, length, length-append, length-drop, take, drop, reverse, Some, None, refl, sym, ap, ◌∙◌, subst, arith}
-use Rattle.std.specs.Option.{is_some}
+use Rattle.std.proofs.Common.{◌≡◌, ℕ, zero, suc, ◌+◌, add-zero, add-one, ◌-◌, ◌<◌, ◌≤◌, Bool, true, false, cond, ◌||◌, List, [], ◌∷◌, ◌++◌, append-nil, append_assoc, length, length-append, take, drop, reverse, Some, None, refl, sym, ap, ◌∙◌, subst, arith}
 use Rattle.std.specs.List.{concat, slice_get, list_any}
 use Rattle.std.specs.Str.{bytes_eq}
 use Rattle.std.proofs.lemmas.List.{reverse-reverse, reverse-append}
 use Rattle.std.proofs.lemmas.List.Folds.{concat-append, list_any-append}
-use Rattle.std.proofs.Math.Seq.{take-length, take-append_seam, drop-append_seam}
+use Rattle.std.proofs.Math.Seq.{take-append_seam, drop-append_seam}
 use Rattle.indexmap.specs.IndexSet.{contains_text}
 use Rattle.pn_tree.specs.Building.{with_attr}
-use Rattle.pn_tree.specs.Elements.{attr_value}
 use Rattle.pn_tree.specs.declared.element.Element.{Element}
 use Rattle.pn_scan.specs.Names.{spans_from, AreNames, Holds, AreNoted}
 use Rattle.pn_scan.specs.declared.names.Span.{Span}
@@ -218,6 +216,3 @@ noted_other t u name value e h same more = record {
       ap (λ o. list_any (λ n. bytes_eq n q) h.names || o) (more q) ∙ put_other (list_any (λ n. bytes_eq n q) h.names) (bytes_eq name q) (contains_text t.others q)
       ∙ ap (cond (bytes_eq name q) true) (h.all q) ∙ sym (attr_push name value q e.attrs);
 }
-
-pub noted_none : (t : AttributeNames) → Holds [] t.first → ((q : List ℕ) → contains_text t.others q ≡ false) → AreNoted t []
-noted_none t held none = record { names = []; held = held; all = none }

@@ -10,3 +10,4 @@ pub mod Open
 pub mod Fed
 pub mod Reading
 pub mod Ordinary
+pub mod Kinds

@@ -7,6 +7,7 @@ mod bytes;
 mod characters;
 mod context;
 mod declaration;
+mod kinds;
 pub mod laws;
 mod misc;
 mod names;

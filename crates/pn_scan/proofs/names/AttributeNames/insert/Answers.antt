@@ -1,4 +1,4 @@
-use Rattle.std.proofs.Common.{◌≡◌, ◌++◌, ◌∷◌, [], ℕ, List, refl, ap, subst}
+use Rattle.std.proofs.Common.{◌++◌, ◌∷◌, [], refl, subst}
 use Rattle.indexmap.proofs.MapLemmas.{OnOk-map}
 use Rattle.pn_scan.specs.Names.{Holds}
 use Rattle.pn_scan.proofs.NameLemmas.{noted_first, noted_other}

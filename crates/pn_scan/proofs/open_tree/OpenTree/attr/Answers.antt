@@ -1,4 +1,4 @@
-use Rattle.std.proofs.Common.{refl, ap, sym, subst, ◌∙◌}
+use Rattle.std.proofs.Common.{refl, ap, subst, ◌∙◌}
 use Rattle.pn_tree.specs.Building.{at_innermost, with_attr}
 use Rattle.pn_scan.specs.Names.{AreNoted}
 use Rattle.pn_scan.proofs.OpenTreeLemmas.{belongs_attr}
