@@ -5,10 +5,9 @@ use Rattle.std.specs.Str.{bytes_eq}
 use Rattle.std.proofs.lemmas.List.{reverse-reverse, reverse-append}
 use Rattle.std.proofs.lemmas.List.Folds.{concat-append, list_any-append}
 use Rattle.std.proofs.Math.Seq.{take-append_seam, drop-append_seam}
-use Rattle.indexmap.specs.IndexSet.{contains_text}
 use Rattle.pn_tree.specs.Building.{with_attr}
 use Rattle.pn_tree.specs.declared.element.Element.{Element}
-use Rattle.pn_scan.specs.Names.{spans_from, AreNames, Holds, AreNoted}
+use Rattle.pn_scan.specs.Names.{spans_from, AreNames, Holds, has_other, AreNoted}
 use Rattle.pn_scan.specs.declared.names.Span.{Span}
 use Rattle.pn_scan.specs.declared.names.AttributeNames.{AttributeNames}
 use Rattle.pn_scan.proofs.PieceLemmas.{some_is}
@@ -196,23 +195,23 @@ put_other false false c = refl
 
 -- one more in the list
 pub noted_first : (t u : AttributeNames) (name value : List ℕ) (e : Element) → AreNoted t e.attrs → ((names : List (List ℕ)) → Holds names t.first → Holds (names ++ (name ∷ [])) u.first)
-    → u.others ≡ t.others → AreNoted u (with_attr name value e).attrs
+    → ((q : List ℕ) → has_other u q ≡ has_other t q) → AreNoted u (with_attr name value e).attrs
 noted_first t u name value e h more same = record {
   names = h.names ++ (name ∷ []);
   held = more h.names h.held;
   all = λ q.
-      ap (λ o. list_any (λ n. bytes_eq n q) (h.names ++ (name ∷ [])) || contains_text o q) same
-      ∙ ap (λ a. a || contains_text t.others q) (list_any-append (λ n. bytes_eq n q) h.names (name ∷ []))
-      ∙ put_first (list_any (λ n. bytes_eq n q) h.names) (bytes_eq name q) (contains_text t.others q) ∙ ap (cond (bytes_eq name q) true) (h.all q) ∙ sym (attr_push name value q e.attrs);
+      ap (λ o. list_any (λ n. bytes_eq n q) (h.names ++ (name ∷ [])) || o) (same q)
+      ∙ ap (λ a. a || has_other t q) (list_any-append (λ n. bytes_eq n q) h.names (name ∷ []))
+      ∙ put_first (list_any (λ n. bytes_eq n q) h.names) (bytes_eq name q) (has_other t q) ∙ ap (cond (bytes_eq name q) true) (h.all q) ∙ sym (attr_push name value q e.attrs);
 }
 
 -- one more in the set
 pub noted_other : (t u : AttributeNames) (name value : List ℕ) (e : Element) → AreNoted t e.attrs → u.first ≡ t.first
-    → ((q : List ℕ) → contains_text u.others q ≡ cond (bytes_eq name q) true (contains_text t.others q)) → AreNoted u (with_attr name value e).attrs
+    → ((q : List ℕ) → has_other u q ≡ cond (bytes_eq name q) true (has_other t q)) → AreNoted u (with_attr name value e).attrs
 noted_other t u name value e h same more = record {
   names = h.names;
   held = subst (Holds h.names) (sym same) h.held;
   all = λ q.
-      ap (λ o. list_any (λ n. bytes_eq n q) h.names || o) (more q) ∙ put_other (list_any (λ n. bytes_eq n q) h.names) (bytes_eq name q) (contains_text t.others q)
+      ap (λ o. list_any (λ n. bytes_eq n q) h.names || o) (more q) ∙ put_other (list_any (λ n. bytes_eq n q) h.names) (bytes_eq name q) (has_other t q)
       ∙ ap (cond (bytes_eq name q) true) (h.all q) ∙ sym (attr_push name value q e.attrs);
 }

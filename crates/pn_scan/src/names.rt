@@ -1,7 +1,9 @@
 //! Names that are kept one behind the other, in one buffer.
 
-ghost use Rattle.std.specs.Prelude.{◌≡◌, ◌∷◌, ◌++◌, ◌<◌, ◌≤◌, ◌-◌, ℕ, List, [], true, length, take, drop, is_some, slice_get, OnOk, IfSome, if◌then◌else◌};
+ghost use Rattle.std.specs.Prelude.{◌≡◌, ◌∷◌, ◌++◌, ◌<◌, ◌≤◌, ◌-◌, ℕ, List, [], true, false, length, take, drop, is_some, slice_get, OnOk, IfSome, if◌then◌else◌};
 ghost use Rattle.std.specs.List.{list_any};
+ghost use Rattle.std.specs.Option.{option_map, unwrap_or};
+ghost use Rattle.pn_text.specs.Characters.{is_text};
 ghost use Rattle.std.specs.Str.{bytes_eq};
 ghost use Rattle.indexmap.specs.IndexSet.{contains_text};
 ghost use Rattle.pn_tree.specs.Elements.{attr_value};
@@ -10,6 +12,7 @@ ghost use Rattle.pn_tree.specs.declared.element.Attr.{Attr};
 ghost use Rattle.pn_tree.specs.declared.element.Element.{Element};
 ghost use Rattle.pn_scan.specs.Names.{AreNames, Holds, AreNoted};
 
+use crate::open_tree::as_text;
 use indexmap::IndexSet;
 use std::alloc::{AllocError, Global};
 
@@ -126,12 +129,31 @@ impl Names {
     }
 }
 
-/// Notes a name in a set.
-fn note_name(alloc: Global, names: &mut IndexSet<String>, name: &str) -> Result<(), AllocError>
+/// Puts a name into a set.
+fn put_name(alloc: Global, names: &mut IndexSet<String>, name: &str) -> Result<(), AllocError>
     ensures { OnOk result ((q : List ℕ)
         → contains_text names.new q ≡ (if bytes_eq name.now q then true else contains_text names.old q)) }
 {
     names.insert(String::from_str(alloc, name)?)?;
+    Ok(())
+}
+
+/// Puts a name into a set, which is made where there is none yet.
+fn note_name(
+    alloc: Global,
+    names: &mut Option<IndexSet<String>>,
+    name: &str,
+) -> Result<(), AllocError>
+    ensures { OnOk result ((q : List ℕ)
+        → unwrap_or (option_map (λ s. contains_text s q) names.new) false
+        ≡ (if bytes_eq name.now q then true else unwrap_or (option_map (λ s. contains_text s q) names.old) false)) }
+{
+    let mut set = match names.take() {
+        Some(set) => set,
+        None => IndexSet::new(alloc),
+    };
+    put_name(alloc, &mut set, name)?;
+    *names = Some(set);
     Ok(())
 }
 
@@ -141,7 +163,7 @@ fn note_name(alloc: Global, names: &mut IndexSet<String>, name: &str) -> Result<
 pub(crate) struct AttributeNames {
     alloc: Global,
     first: Names,
-    others: IndexSet<String>,
+    others: Option<IndexSet<String>>,
 }
 
 impl AttributeNames {
@@ -152,7 +174,7 @@ impl AttributeNames {
         AttributeNames {
             alloc,
             first: Names::new(alloc),
-            others: IndexSet::new(alloc),
+            others: None,
         }
     }
 
@@ -161,7 +183,7 @@ impl AttributeNames {
         ensures { AreNoted self.new [] }
     {
         self.first.clear();
-        self.others = IndexSet::new(self.alloc);
+        self.others = None;
     }
 
     /// Notes the name of one more attribute.
@@ -176,10 +198,17 @@ impl AttributeNames {
     }
 
     /// Whether an attribute has this name.
-    pub(crate) fn contains(&self, name: &str) -> bool
-        requires { (given : List Attr) × AreNoted self.now given }
+    pub(crate) fn contains(&self, name: &[u8]) -> bool
+        requires noted { (given : List Attr) × AreNoted self.now given }
+        requires text { is_text name.now ≡ true }
         ensures { (given : List Attr) → AreNoted self.now given → result ≡ is_some (attr_value name.now given) }
     {
-        self.first.contains(name.as_bytes()) || self.others.contains(name)
+        if self.first.contains(name) {
+            return true;
+        }
+        match &self.others {
+            Some(others) => others.contains(as_text(name)),
+            None => false,
+        }
     }
 }

@@ -142,7 +142,7 @@ impl OpenTree {
         requires before_kids { (inner_of (nesting_of self.now)).kids ≡ [] }
         ensures { result ≡ is_some (attr_value name.now (inner_of (nesting_of self.now)).attrs) }
     {
-        self.attributes.contains(as_text(name))
+        self.attributes.contains(name)
     }
 
     /// Gives the innermost open element a text.

@@ -9,7 +9,7 @@ returns-then-len-lt12 c =
     let t = c.args.self.now in
     let n = c.args.name.now in
     OnOk-map c.push.result _ _
-    (λ more e value h. noted_first t _ n value e h (λ names held. subst (λ w. Holds (names ++ (w ∷ [])) c.push.new.self) c.as_bytes.ensures.value (more names held)) refl)
+    (λ more e value h. noted_first t _ n value e h (λ names held. subst (λ w. Holds (names ++ (w ∷ [])) c.push.new.self) c.as_bytes.ensures.value (more names held)) (λ q. refl))
     c.push.ensures
 
 pub returns : goal.returns
