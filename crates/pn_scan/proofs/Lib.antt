@@ -18,6 +18,8 @@ pub mod OutsideLaws
 pub mod RunLaws
 pub mod MarkupLaws
 pub mod NextStateLaw
+pub mod AttributeNameLemmas
+pub mod NameLemmas
 pub mod OpenTreeLemmas
 pub mod NextStateLemmas
 pub mod CharacterLemmas
@@ -32,3 +34,4 @@ pub mod ReachLemmas
 pub mod ContextLemmas
 pub mod ReadingLemmas
 pub mod OrdinaryLemmas
+pub mod KindLemmas

@@ -23,6 +23,7 @@ use Rattle.pn_scan.specs.declared.open_tree.OpenTree.{OpenTree}
 use Rattle.pn_scan.specs.declared.context.Brackets.{Brackets}
 use Rattle.pn_scan.specs.declared.context.Brackets.TheVariants.{Zero, One, Two}
 use Rattle.pn_scan.specs.declared.context.Context.{Context}
+use Rattle.pn_scan.specs.declared.context.Kept.{Kept}
 use Rattle.pn_scan.specs.declared.context.Context.TheVariants as contexts
 use Rattle.pn_scan.specs.declared.characters.Open.{Open}
 use Rattle.pn_scan.proofs.NextStateLemmas.{if_true, if_false, end_some}
@@ -136,31 +137,31 @@ ordinary_low : (m : Context) (x : ℕ) → is_ordinary m x ≡ true → open_beh
 ordinary_low contexts.Start x h = absurd (false≢true h)
 ordinary_low contexts.First x h = absurd (false≢true h)
 ordinary_low contexts.Between x h = absurd (false≢true h)
-ordinary_low (contexts.Run text Zero false) x h = ascii_next x (text_ascii x h)
-ordinary_low (contexts.Run text Zero true) x h = absurd (false≢true h)
-ordinary_low (contexts.Run text One cr) x h = absurd (false≢true h)
-ordinary_low (contexts.Run text Two cr) x h = absurd (false≢true h)
+ordinary_low (contexts.Run Zero false) x h = ascii_next x (text_ascii x h)
+ordinary_low (contexts.Run Zero true) x h = absurd (false≢true h)
+ordinary_low (contexts.Run One cr) x h = absurd (false≢true h)
+ordinary_low (contexts.Run Two cr) x h = absurd (false≢true h)
 ordinary_low (contexts.Markup first begin) x h = absurd (false≢true h)
 ordinary_low contexts.Bang x h = absurd (false≢true h)
 ordinary_low (contexts.Comment true) x h = absurd (false≢true h)
 ordinary_low (contexts.Comment false) x h = ascii_next x (but_ascii 45 x h)
-ordinary_low (contexts.Target first name) x h = absurd (false≢true h)
+ordinary_low (contexts.Target first) x h = absurd (false≢true h)
 ordinary_low (contexts.Instruction true) x h = absurd (false≢true h)
 ordinary_low (contexts.Instruction false) x h = ascii_next x (but_ascii 63 x h)
-ordinary_low (contexts.Section text Zero false) x h = ascii_next x (text_ascii x h)
-ordinary_low (contexts.Section text Zero true) x h = absurd (false≢true h)
-ordinary_low (contexts.Section text One cr) x h = absurd (false≢true h)
-ordinary_low (contexts.Section text Two cr) x h = absurd (false≢true h)
-ordinary_low (contexts.Name begin name) x h = ascii_next x (name_ascii x h)
+ordinary_low (contexts.Section Zero false) x h = ascii_next x (text_ascii x h)
+ordinary_low (contexts.Section Zero true) x h = absurd (false≢true h)
+ordinary_low (contexts.Section One cr) x h = absurd (false≢true h)
+ordinary_low (contexts.Section Two cr) x h = absurd (false≢true h)
+ordinary_low (contexts.Name begin) x h = ascii_next x (name_ascii x h)
 ordinary_low (contexts.Tag true) x h = space_alone x h
 ordinary_low (contexts.Tag false) x h = absurd (false≢true h)
-ordinary_low (contexts.Attribute name) x h = ascii_next x (name_ascii x h)
-ordinary_low (contexts.BeforeEquals name) x h = absurd (false≢true h)
-ordinary_low (contexts.BehindEquals name) x h = absurd (false≢true h)
-ordinary_low (contexts.Value name quote value true) x h = absurd (false≢true h)
-ordinary_low (contexts.Value name quote value false) x h = ascii_next x (value_ascii quote x h)
+ordinary_low contexts.Attribute x h = ascii_next x (name_ascii x h)
+ordinary_low contexts.BeforeEquals x h = absurd (false≢true h)
+ordinary_low contexts.BehindEquals x h = absurd (false≢true h)
+ordinary_low (contexts.Value quote true) x h = absurd (false≢true h)
+ordinary_low (contexts.Value quote false) x h = ascii_next x (value_ascii quote x h)
 ordinary_low (contexts.Reference holder) x h = absurd (false≢true h)
-ordinary_low (contexts.Entity holder part) x h = absurd (false≢true h)
+ordinary_low (contexts.Entity holder) x h = absurd (false≢true h)
 ordinary_low (contexts.NumberSign holder) x h = absurd (false≢true h)
 ordinary_low (contexts.Number holder base number any) x h = absurd (false≢true h)
 ordinary_low (contexts.Due left next) x h = absurd (false≢true h)
@@ -168,45 +169,45 @@ ordinary_low (contexts.EndName read) x h = absurd (false≢true h)
 ordinary_low (contexts.Declaration stage spaced) x h = absurd (false≢true h)
 ordinary_low (contexts.BeforePartEquals part) x h = absurd (false≢true h)
 ordinary_low (contexts.BehindPartEquals part) x h = absurd (false≢true h)
-ordinary_low (contexts.PartValue part quote value) x h = absurd (false≢true h)
+ordinary_low (contexts.PartValue part quote) x h = absurd (false≢true h)
 
-ordinary_next : (m : Context) (p : Nesting) (ys : List ℕ) (at x : ℕ) → is_ordinary m x ≡ true → next_state (behind_ordinary (state_of p m) ys) at x ≡ Some (behind_ordinary (state_of p m) (ys ++ (x ∷ [])))
-ordinary_next contexts.Start p ys at x h = absurd (false≢true h)
-ordinary_next contexts.First p ys at x h = absurd (false≢true h)
-ordinary_next contexts.Between p ys at x h = absurd (false≢true h)
-ordinary_next (contexts.Run text Zero false) p ys at x h = run_next (levels_of p) (inner_of p) (outer_of p) (text.items ++ ys) at x h ∙ ap (λ l. Some (in_run (levels_of p) (inner_of p) (outer_of p) l no_bracket false)) (append_assoc text.items ys (x ∷ []))
-ordinary_next (contexts.Run text Zero true) p ys at x h = absurd (false≢true h)
-ordinary_next (contexts.Run text One cr) p ys at x h = absurd (false≢true h)
-ordinary_next (contexts.Run text Two cr) p ys at x h = absurd (false≢true h)
-ordinary_next (contexts.Markup first begin) p ys at x h = absurd (false≢true h)
-ordinary_next contexts.Bang p ys at x h = absurd (false≢true h)
-ordinary_next (contexts.Comment true) p ys at x h = absurd (false≢true h)
-ordinary_next (contexts.Comment false) p ys at x h = if_false (x == 45) (Some (in_comment p true)) (Some (in_comment p false)) (not_mark 45 x h)
-ordinary_next (contexts.Target first name) p ys at x h = absurd (false≢true h)
-ordinary_next (contexts.Instruction true) p ys at x h = absurd (false≢true h)
-ordinary_next (contexts.Instruction false) p ys at x h = if_false (x == 63) (Some (in_instruction p true)) (Some (in_instruction p false)) (not_mark 63 x h)
-ordinary_next (contexts.Section text Zero false) p ys at x h = section_next (levels_of p) (inner_of p) (outer_of p) (text.items ++ ys) x h ∙ ap (λ l. Some (in_section (levels_of p) (inner_of p) (outer_of p) l no_bracket false)) (append_assoc text.items ys (x ∷ []))
-ordinary_next (contexts.Section text Zero true) p ys at x h = absurd (false≢true h)
-ordinary_next (contexts.Section text One cr) p ys at x h = absurd (false≢true h)
-ordinary_next (contexts.Section text Two cr) p ys at x h = absurd (false≢true h)
-ordinary_next (contexts.Name begin name) p ys at x h = name_next (levels_for p) (outer_for p) begin (name.items ++ ys) at x h ∙ ap (λ l. Some (in_name (levels_for p) (outer_for p) begin l)) (append_assoc name.items ys (x ∷ []))
-ordinary_next (contexts.Tag true) p ys at x h = space_next (levels_of p) (outer_of p) (inner_of p) x h
-ordinary_next (contexts.Tag false) p ys at x h = absurd (false≢true h)
-ordinary_next (contexts.Attribute name) p ys at x h = attribute_next (levels_of p) (outer_of p) (inner_of p) (name.items ++ ys) at x h ∙ ap (λ l. Some (in_attribute (levels_of p) (outer_of p) (inner_of p) l)) (append_assoc name.items ys (x ∷ []))
-ordinary_next (contexts.BeforeEquals name) p ys at x h = absurd (false≢true h)
-ordinary_next (contexts.BehindEquals name) p ys at x h = absurd (false≢true h)
-ordinary_next (contexts.Value name quote value true) p ys at x h = absurd (false≢true h)
-ordinary_next (contexts.Value name quote value false) p ys at x h = value_next (levels_of p) (outer_of p) (inner_of p) name.items quote (value.items ++ ys) x h ∙ ap (λ l. Some (in_value (levels_of p) (outer_of p) (inner_of p) name.items quote l false)) (append_assoc value.items ys (x ∷ []))
-ordinary_next (contexts.Reference holder) p ys at x h = absurd (false≢true h)
-ordinary_next (contexts.Entity holder part) p ys at x h = absurd (false≢true h)
-ordinary_next (contexts.NumberSign holder) p ys at x h = absurd (false≢true h)
-ordinary_next (contexts.Number holder base number any) p ys at x h = absurd (false≢true h)
-ordinary_next (contexts.Due left next) p ys at x h = absurd (false≢true h)
-ordinary_next (contexts.EndName read) p ys at x h = absurd (false≢true h)
-ordinary_next (contexts.Declaration stage spaced) p ys at x h = absurd (false≢true h)
-ordinary_next (contexts.BeforePartEquals part) p ys at x h = absurd (false≢true h)
-ordinary_next (contexts.BehindPartEquals part) p ys at x h = absurd (false≢true h)
-ordinary_next (contexts.PartValue part quote value) p ys at x h = absurd (false≢true h)
+ordinary_next : (m : Context) (k : Kept) (p : Nesting) (ys : List ℕ) (at x : ℕ) → is_ordinary m x ≡ true → next_state (behind_ordinary (state_of p k m) ys) at x ≡ Some (behind_ordinary (state_of p k m) (ys ++ (x ∷ [])))
+ordinary_next contexts.Start k p ys at x h = absurd (false≢true h)
+ordinary_next contexts.First k p ys at x h = absurd (false≢true h)
+ordinary_next contexts.Between k p ys at x h = absurd (false≢true h)
+ordinary_next (contexts.Run Zero false) k p ys at x h = run_next (levels_of p) (inner_of p) (outer_of p) (k.text.items ++ ys) at x h ∙ ap (λ l. Some (in_run (levels_of p) (inner_of p) (outer_of p) l no_bracket false)) (append_assoc k.text.items ys (x ∷ []))
+ordinary_next (contexts.Run Zero true) k p ys at x h = absurd (false≢true h)
+ordinary_next (contexts.Run One cr) k p ys at x h = absurd (false≢true h)
+ordinary_next (contexts.Run Two cr) k p ys at x h = absurd (false≢true h)
+ordinary_next (contexts.Markup first begin) k p ys at x h = absurd (false≢true h)
+ordinary_next contexts.Bang k p ys at x h = absurd (false≢true h)
+ordinary_next (contexts.Comment true) k p ys at x h = absurd (false≢true h)
+ordinary_next (contexts.Comment false) k p ys at x h = if_false (x == 45) (Some (in_comment p true)) (Some (in_comment p false)) (not_mark 45 x h)
+ordinary_next (contexts.Target first) k p ys at x h = absurd (false≢true h)
+ordinary_next (contexts.Instruction true) k p ys at x h = absurd (false≢true h)
+ordinary_next (contexts.Instruction false) k p ys at x h = if_false (x == 63) (Some (in_instruction p true)) (Some (in_instruction p false)) (not_mark 63 x h)
+ordinary_next (contexts.Section Zero false) k p ys at x h = section_next (levels_of p) (inner_of p) (outer_of p) (k.text.items ++ ys) x h ∙ ap (λ l. Some (in_section (levels_of p) (inner_of p) (outer_of p) l no_bracket false)) (append_assoc k.text.items ys (x ∷ []))
+ordinary_next (contexts.Section Zero true) k p ys at x h = absurd (false≢true h)
+ordinary_next (contexts.Section One cr) k p ys at x h = absurd (false≢true h)
+ordinary_next (contexts.Section Two cr) k p ys at x h = absurd (false≢true h)
+ordinary_next (contexts.Name begin) k p ys at x h = name_next (levels_for p) (outer_for p) begin (k.name.items ++ ys) at x h ∙ ap (λ l. Some (in_name (levels_for p) (outer_for p) begin l)) (append_assoc k.name.items ys (x ∷ []))
+ordinary_next (contexts.Tag true) k p ys at x h = space_next (levels_of p) (outer_of p) (inner_of p) x h
+ordinary_next (contexts.Tag false) k p ys at x h = absurd (false≢true h)
+ordinary_next contexts.Attribute k p ys at x h = attribute_next (levels_of p) (outer_of p) (inner_of p) (k.name.items ++ ys) at x h ∙ ap (λ l. Some (in_attribute (levels_of p) (outer_of p) (inner_of p) l)) (append_assoc k.name.items ys (x ∷ []))
+ordinary_next contexts.BeforeEquals k p ys at x h = absurd (false≢true h)
+ordinary_next contexts.BehindEquals k p ys at x h = absurd (false≢true h)
+ordinary_next (contexts.Value quote true) k p ys at x h = absurd (false≢true h)
+ordinary_next (contexts.Value quote false) k p ys at x h = value_next (levels_of p) (outer_of p) (inner_of p) k.name.items quote (k.text.items ++ ys) x h ∙ ap (λ l. Some (in_value (levels_of p) (outer_of p) (inner_of p) k.name.items quote l false)) (append_assoc k.text.items ys (x ∷ []))
+ordinary_next (contexts.Reference holder) k p ys at x h = absurd (false≢true h)
+ordinary_next (contexts.Entity holder) k p ys at x h = absurd (false≢true h)
+ordinary_next (contexts.NumberSign holder) k p ys at x h = absurd (false≢true h)
+ordinary_next (contexts.Number holder base number any) k p ys at x h = absurd (false≢true h)
+ordinary_next (contexts.Due left next) k p ys at x h = absurd (false≢true h)
+ordinary_next (contexts.EndName read) k p ys at x h = absurd (false≢true h)
+ordinary_next (contexts.Declaration stage spaced) k p ys at x h = absurd (false≢true h)
+ordinary_next (contexts.BeforePartEquals part) k p ys at x h = absurd (false≢true h)
+ordinary_next (contexts.BehindPartEquals part) k p ys at x h = absurd (false≢true h)
+ordinary_next (contexts.PartValue part quote) k p ys at x h = absurd (false≢true h)
 
 pub behind_none : (s : State) → behind_ordinary s [] ≡ s
 behind_none at_start = refl
@@ -236,19 +237,19 @@ behind_none (before_part_equals part) = refl
 behind_none (behind_part_equals part) = refl
 behind_none (in_part part quote value) = refl
 
-fed_next : (m : Context) (p : Nesting) (b ys xs : List ℕ) → Fed (behind_ordinary (state_of p m) ys) [] (b ++ ys) → list_all (is_ordinary m) xs ≡ true
-    → Fed (behind_ordinary (state_of p m) (ys ++ xs)) [] (b ++ (ys ++ xs))
-fed_next m p b ys [] f h = subst (λ l. Fed (behind_ordinary (state_of p m) l) [] (b ++ l)) (sym (append-nil ys)) f
-fed_next m p b ys (x ∷ xs) f h =
-    let s = state_of p m in
+fed_next : (m : Context) (k : Kept) (p : Nesting) (b ys xs : List ℕ) → Fed (behind_ordinary (state_of p k m) ys) [] (b ++ ys) → list_all (is_ordinary m) xs ≡ true
+    → Fed (behind_ordinary (state_of p k m) (ys ++ xs)) [] (b ++ (ys ++ xs))
+fed_next m k p b ys [] f h = subst (λ l. Fed (behind_ordinary (state_of p k m) l) [] (b ++ l)) (sym (append-nil ys)) f
+fed_next m k p b ys (x ∷ xs) f h =
+    let s = state_of p k m in
     let both = and_parts (is_ordinary m x) (list_all (is_ordinary m) xs) h in
-    let one = fed_more (behind_ordinary s ys) [] (b ++ ys) x [] (behind_ordinary s (ys ++ (x ∷ []))) f (ordinary_low m x both.0) (ordinary_next m p ys (length (b ++ ys)) x both.0) in
-    let more = fed_next m p b (ys ++ (x ∷ [])) xs (subst (Fed (behind_ordinary s (ys ++ (x ∷ []))) []) (append_assoc b ys (x ∷ [])) one) both.1 in
+    let one = fed_more (behind_ordinary s ys) [] (b ++ ys) x [] (behind_ordinary s (ys ++ (x ∷ []))) f (ordinary_low m x both.0) (ordinary_next m k p ys (length (b ++ ys)) x both.0) in
+    let more = fed_next m k p b (ys ++ (x ∷ [])) xs (subst (Fed (behind_ordinary s (ys ++ (x ∷ []))) []) (append_assoc b ys (x ∷ [])) one) both.1 in
     subst (λ l. Fed (behind_ordinary s l) [] (b ++ l)) (append_assoc ys (x ∷ []) xs) more
 
-fed_ordinary : (m : Context) (p : Nesting) (b xs : List ℕ) → Fed (state_of p m) [] b → list_all (is_ordinary m) xs ≡ true → Fed (behind_ordinary (state_of p m) xs) [] (b ++ xs)
-fed_ordinary m p b xs f h =
-    fed_next m p b [] xs (subst (λ s. Fed s [] (b ++ [])) (sym (behind_none (state_of p m))) (subst (Fed (state_of p m) []) (sym (append-nil b)) f)) h
+fed_ordinary : (m : Context) (k : Kept) (p : Nesting) (b xs : List ℕ) → Fed (state_of p k m) [] b → list_all (is_ordinary m) xs ≡ true → Fed (behind_ordinary (state_of p k m) xs) [] (b ++ xs)
+fed_ordinary m k p b xs f h =
+    fed_next m k p b [] xs (subst (λ s. Fed s [] (b ++ [])) (sym (behind_none (state_of p k m))) (subst (Fed (state_of p k m) []) (sym (append-nil b)) f)) h
 
 pub never_any : (xs : List ℕ) → prefix_len never xs ≡ 0
 never_any [] = refl
@@ -282,26 +283,26 @@ front_passes p (x ∷ xs) = go (p x) refl (front_passes p xs)
     go false e h = refl
 
 -- bytes that stand for themselves were taken
-pub ordinary_more : (tree : OpenTree) (context context2 : Context) (opened : Open) (count count2 : ℕ) (b xs : List ℕ) → IsReading tree context opened count b → open_bytes opened ≡ []
-    → list_all (is_ordinary context) xs ≡ true → state_of (nesting_of tree) context2 ≡ behind_ordinary (state_of (nesting_of tree) context) xs → Admits (nesting_of tree) context2 → count2 ≡ count + length xs
-    → count2 ≤ BYTES → IsReading tree context2 opened count2 (b ++ xs)
-ordinary_more tree context context2 opened count count2 b xs r none ordinary state fits counted within =
+pub ordinary_more : (tree : OpenTree) (kept kept2 : Kept) (context : Context) (opened : Open) (count count2 : ℕ) (b xs : List ℕ) → IsReading tree kept context opened count b → open_bytes opened ≡ []
+    → list_all (is_ordinary context) xs ≡ true → state_of (nesting_of tree) kept2 context ≡ behind_ordinary (state_of (nesting_of tree) kept context) xs → count2 ≡ count + length xs
+    → count2 ≤ BYTES → IsReading tree kept2 context opened count2 (b ++ xs)
+ordinary_more tree kept kept2 context opened count count2 b xs r none ordinary state counted within =
     let p = nesting_of tree in
     let was : count ≡ length b = r.counted in
     record {
       belongs = r.belongs;
-      fits = fits;
+      fits = r.fits;
       fed =
-          subst (λ o. Fed (state_of p context2) o (b ++ xs)) (sym none)
-          (subst (λ s. Fed s [] (b ++ xs)) (sym state) (fed_ordinary context p b xs (subst (λ o. Fed (state_of p context) o b) none r.fed) ordinary));
+          subst (λ o. Fed (state_of p kept2 context) o (b ++ xs)) (sym none)
+          (subst (λ s. Fed s [] (b ++ xs)) (sym state) (fed_ordinary context kept p b xs (subst (λ o. Fed (state_of p kept context) o b) none r.fed) ordinary));
       counted = omega (arith, length-append b xs);
       within = omega (arith, length-append b xs);
     }
 
 -- a context that is the same state
-pub same_state : (tree : OpenTree) (context context2 : Context) (opened : Open) (count : ℕ) (b : List ℕ) → IsReading tree context opened count b
-    → state_of (nesting_of tree) context2 ≡ state_of (nesting_of tree) context → Admits (nesting_of tree) context2 → IsReading tree context2 opened count b
-same_state tree context context2 opened count b r state fits = record {
+pub same_state : (tree : OpenTree) (kept kept2 : Kept) (context context2 : Context) (opened : Open) (count : ℕ) (b : List ℕ) → IsReading tree kept context opened count b
+    → state_of (nesting_of tree) kept2 context2 ≡ state_of (nesting_of tree) kept context → Admits (nesting_of tree) context2 → IsReading tree kept2 context2 opened count b
+same_state tree kept kept2 context context2 opened count b r state fits = record {
   belongs = r.belongs;
   fits = fits;
   fed = subst (λ s. Fed s (open_bytes opened) b) (sym state) r.fed;
@@ -333,18 +334,18 @@ front_facts p n room piece front is counted =
     }
 
 -- the front of a piece, as far as there is room, in the context that was begun
-pub ordinary_read : (tree : OpenTree) (context begun context2 : Context) (opened : Open) (count room n : ℕ) (b piece front : List ℕ) → IsReading tree context opened count b → open_bytes opened ≡ []
-    → state_of (nesting_of tree) begun ≡ state_of (nesting_of tree) context → Admits (nesting_of tree) begun → room ≡ BYTES - count → front ≡ take room piece → n ≡ prefix_len (is_ordinary begun) front
-    → state_of (nesting_of tree) context2 ≡ behind_ordinary (state_of (nesting_of tree) begun) (take n front) → Admits (nesting_of tree) context2
-    → IsReading tree context2 opened (count + n) (b ++ take n piece)
-ordinary_read tree context begun context2 opened count room n b piece front r none state fits roomy is counted behind fits2 =
+pub ordinary_read : (tree : OpenTree) (kept kept2 kept3 : Kept) (context begun : Context) (opened : Open) (count room n : ℕ) (b piece front : List ℕ) → IsReading tree kept context opened count b → open_bytes opened ≡ []
+    → state_of (nesting_of tree) kept2 begun ≡ state_of (nesting_of tree) kept context → Admits (nesting_of tree) begun → room ≡ BYTES - count → front ≡ take room piece → n ≡ prefix_len (is_ordinary begun) front
+    → state_of (nesting_of tree) kept3 begun ≡ behind_ordinary (state_of (nesting_of tree) kept2 begun) (take n front)
+    → IsReading tree kept3 begun opened (count + n) (b ++ take n piece)
+ordinary_read tree kept kept2 kept3 context begun opened count room n b piece front r none state fits roomy is counted behind =
     let f = front_facts (is_ordinary begun) n room piece front is counted in
     let was : count ≡ length b = r.counted in
     let held : length b ≤ BYTES = r.within in
     let size : length (take n piece) ≡ n = f.size in
     let within : n ≤ room = f.within in
-    ordinary_more tree begun context2 opened count (count + n) b (take n piece) (same_state tree context begun opened count b r state fits) none f.all
-    (behind ∙ ap (behind_ordinary (state_of (nesting_of tree) begun)) f.same) fits2 (ap (λ k. count + k) (sym size)) (omega arith)
+    ordinary_more tree kept2 kept3 begun opened count (count + n) b (take n piece) (same_state tree kept kept2 context begun opened count b r state fits) none f.all
+    (behind ∙ ap (behind_ordinary (state_of (nesting_of tree) kept2 begun)) f.same) (ap (λ k. count + k) (sym size)) (omega arith)
 
 -- a piece, and what is left of it
 
@@ -407,10 +408,10 @@ fed_name p read b (x ∷ xs) rest f is h =
     let sum : (read + 1) + length xs ≡ read + suc (length xs) = omega arith in
     subst (λ n. Fed (end_of p n) [] (b ++ (x ∷ xs))) sum (subst (Fed (end_of p ((read + 1) + length xs)) []) (append_assoc b (x ∷ []) xs) more)
 
-pub name_read : (tree : OpenTree) (context : Context) (opened : Open) (count room read n : ℕ) (b piece front : List ℕ) → IsReading tree context opened count b → open_bytes opened ≡ []
+pub name_read : (tree : OpenTree) (kept : Kept) (context : Context) (opened : Open) (count room read n : ℕ) (b piece front : List ℕ) → IsReading tree kept context opened count b → open_bytes opened ≡ []
     → context ≡ contexts.EndName read → room ≡ BYTES - count → front ≡ take room piece → n ≡ due_front (drop read (inner_of (nesting_of tree)).name) front
-    → IsReading tree (contexts.EndName (read + n)) opened (count + n) (b ++ take n piece)
-name_read tree context opened count room read n b piece front r none m roomy is counted =
+    → IsReading tree kept (contexts.EndName (read + n)) opened (count + n) (b ++ take n piece)
+name_read tree kept context opened count room read n b piece front r none m roomy is counted =
     let p = nesting_of tree in
     let wanted = drop read (inner_of p).name in
     let le : n ≤ length front = subst (λ k. k ≤ length front) (sym counted) (due_le wanted front).1 in
@@ -423,7 +424,7 @@ name_read tree context opened count room read n b piece front r none m roomy is 
     in
     let ordinary : list_all is_ordinary_name xs ≡ true = subst (λ l. list_all is_ordinary_name l ≡ true) same (subst (λ k. list_all is_ordinary_name (take k front) ≡ true) (sym counted) facts.1) in
     let many : length xs ≡ n = ap length (sym same) ∙ take_size front n le in
-    let f : Fed (end_of p read) [] b = subst (λ s. Fed s [] b) (ap (state_of p) m) (subst (λ o. Fed (state_of p context) o b) none r.fed) in
+    let f : Fed (end_of p read) [] b = subst (λ s. Fed s [] b) (ap (state_of p kept) m) (subst (λ o. Fed (state_of p kept context) o b) none r.fed) in
     let was : count ≡ length b = r.counted in
     let held : length b ≤ BYTES = r.within in
     record {

@@ -18,6 +18,7 @@ use Rattle.pn_scan.specs.declared.context.Holder.TheVariants as holders
 use Rattle.pn_scan.specs.declared.context.Then.{Then}
 use Rattle.pn_scan.specs.declared.context.Then.TheVariants as thens
 use Rattle.pn_scan.specs.declared.context.Context.{Context}
+use Rattle.pn_scan.specs.declared.context.Kept.{Kept}
 use Rattle.pn_scan.specs.declared.context.Context.TheVariants as contexts
 
 abbrev pub brackets_of : Brackets → m.Brackets
@@ -36,9 +37,10 @@ stage_of stages.FromEncoding = m.from_encoding
 stage_of stages.FromStandalone = m.from_standalone
 stage_of stages.Nothing = m.none_due
 
-abbrev pub holder_of : Nesting → Holder → m.Holder
-holder_of p holders.Content = m.of_content (levels_of p) (inner_of p) (outer_of p)
-holder_of p (holders.Value name quote value) = m.of_value (levels_of p) (outer_of p) (inner_of p) name.items quote value.items
+-- the name and the value are those that were read
+abbrev pub holder_of : Nesting → List ℕ → List ℕ → Holder → m.Holder
+holder_of p name value holders.Content = m.of_content (levels_of p) (inner_of p) (outer_of p)
+holder_of p name value (holders.Value quote) = m.of_value (levels_of p) (outer_of p) (inner_of p) name quote value
 
 -- the state behind what is due
 abbrev pub then_of : Nesting → Then → State
@@ -55,34 +57,34 @@ end_state p = m.in_end (levels_of p) (inner_of p) (outer_of p)
 abbrev pub end_of : Nesting → ℕ → State
 end_of p read = goes_due (drop read (inner_of p).name) (end_state p)
 
--- the state that a context is
-abbrev pub state_of : Nesting → Context → State
-state_of p contexts.Start = m.at_start
-state_of p contexts.First = m.outside true
-state_of p contexts.Between = behind_piece p
-state_of p (contexts.Run text brackets cr) = m.in_run (levels_of p) (inner_of p) (outer_of p) text.items (brackets_of brackets) cr
-state_of p (contexts.Markup first begin) = m.at_markup first p begin
-state_of p contexts.Bang = m.at_bang p
-state_of p (contexts.Comment dash) = m.in_comment p dash
-state_of p (contexts.Target first name) = m.in_target first p name.items
-state_of p (contexts.Instruction question) = m.in_instruction p question
-state_of p (contexts.Section text brackets cr) = m.in_section (levels_of p) (inner_of p) (outer_of p) text.items (brackets_of brackets) cr
-state_of p (contexts.Name begin name) = m.in_name (levels_for p) (outer_for p) begin name.items
-state_of p (contexts.Tag spaced) = m.in_tag (levels_of p) (outer_of p) (inner_of p) spaced
-state_of p (contexts.Attribute name) = m.in_attribute (levels_of p) (outer_of p) (inner_of p) name.items
-state_of p (contexts.BeforeEquals name) = m.before_equals (levels_of p) (outer_of p) (inner_of p) name.items
-state_of p (contexts.BehindEquals name) = m.behind_equals (levels_of p) (outer_of p) (inner_of p) name.items
-state_of p (contexts.Value name quote value cr) = m.in_value (levels_of p) (outer_of p) (inner_of p) name.items quote value.items cr
-state_of p (contexts.Reference holder) = m.at_reference (holder_of p holder)
-state_of p (contexts.Entity holder part) = m.in_entity (holder_of p holder) part.items
-state_of p (contexts.NumberSign holder) = m.at_number (holder_of p holder)
-state_of p (contexts.Number holder base number any) = m.in_number (holder_of p holder) base number any
-state_of p (contexts.Due left next) = m.due left.now (then_of p next)
-state_of p (contexts.EndName read) = end_of p read
-state_of p (contexts.Declaration stage spaced) = m.in_declaration (stage_of stage) spaced
-state_of p (contexts.BeforePartEquals part) = m.before_part_equals (part_of part)
-state_of p (contexts.BehindPartEquals part) = m.behind_part_equals (part_of part)
-state_of p (contexts.PartValue part quote value) = m.in_part (part_of part) quote value.items
+-- the state that a context is, with what was read of it
+abbrev pub state_of : Nesting → Kept → Context → State
+state_of p k contexts.Start = m.at_start
+state_of p k contexts.First = m.outside true
+state_of p k contexts.Between = behind_piece p
+state_of p k (contexts.Run brackets cr) = m.in_run (levels_of p) (inner_of p) (outer_of p) k.text.items (brackets_of brackets) cr
+state_of p k (contexts.Markup first begin) = m.at_markup first p begin
+state_of p k contexts.Bang = m.at_bang p
+state_of p k (contexts.Comment dash) = m.in_comment p dash
+state_of p k (contexts.Target first) = m.in_target first p k.name.items
+state_of p k (contexts.Instruction question) = m.in_instruction p question
+state_of p k (contexts.Section brackets cr) = m.in_section (levels_of p) (inner_of p) (outer_of p) k.text.items (brackets_of brackets) cr
+state_of p k (contexts.Name begin) = m.in_name (levels_for p) (outer_for p) begin k.name.items
+state_of p k (contexts.Tag spaced) = m.in_tag (levels_of p) (outer_of p) (inner_of p) spaced
+state_of p k contexts.Attribute = m.in_attribute (levels_of p) (outer_of p) (inner_of p) k.name.items
+state_of p k contexts.BeforeEquals = m.before_equals (levels_of p) (outer_of p) (inner_of p) k.name.items
+state_of p k contexts.BehindEquals = m.behind_equals (levels_of p) (outer_of p) (inner_of p) k.name.items
+state_of p k (contexts.Value quote cr) = m.in_value (levels_of p) (outer_of p) (inner_of p) k.name.items quote k.text.items cr
+state_of p k (contexts.Reference holder) = m.at_reference (holder_of p k.name.items k.text.items holder)
+state_of p k (contexts.Entity holder) = m.in_entity (holder_of p k.name.items k.text.items holder) k.entity.items
+state_of p k (contexts.NumberSign holder) = m.at_number (holder_of p k.name.items k.text.items holder)
+state_of p k (contexts.Number holder base number any) = m.in_number (holder_of p k.name.items k.text.items holder) base number any
+state_of p k (contexts.Due left next) = m.due left.now (then_of p next)
+state_of p k (contexts.EndName read) = end_of p read
+state_of p k (contexts.Declaration stage spaced) = m.in_declaration (stage_of stage) spaced
+state_of p k (contexts.BeforePartEquals part) = m.before_part_equals (part_of part)
+state_of p k (contexts.BehindPartEquals part) = m.behind_part_equals (part_of part)
+state_of p k (contexts.PartValue part quote) = m.in_part (part_of part) quote k.text.items
 
 -- what a byte behind the root makes
 abbrev pub next_behind_root : Nesting → ℕ → ℕ → Option State
@@ -95,7 +97,7 @@ pub record IsTag (p : Nesting) : Type 0 where
 
 abbrev pub AdmitsHolder : Nesting → Holder → Type 0
 AdmitsHolder p holders.Content = is_inside p ≡ true
-AdmitsHolder p (holders.Value name quote value) = IsTag p
+AdmitsHolder p (holders.Value quote) = IsTag p
 
 abbrev pub AdmitsThen : Nesting → Then → Type 0
 AdmitsThen p thens.First = p ≡ before
@@ -114,21 +116,21 @@ abbrev pub Admits : Nesting → Context → Type 0
 Admits p contexts.Start = p ≡ before
 Admits p contexts.First = p ≡ before
 Admits p contexts.Between = Unit {0}
-Admits p (contexts.Run text brackets cr) = is_inside p ≡ true
+Admits p (contexts.Run brackets cr) = is_inside p ≡ true
 Admits p (contexts.Markup first begin) = Unit {0}
 Admits p contexts.Bang = Unit {0}
 Admits p (contexts.Comment dash) = Unit {0}
-Admits p (contexts.Target first name) = Unit {0}
+Admits p (contexts.Target first) = Unit {0}
 Admits p (contexts.Instruction question) = Unit {0}
-Admits p (contexts.Section text brackets cr) = is_inside p ≡ true
-Admits p (contexts.Name begin name) = HasRoom p
+Admits p (contexts.Section brackets cr) = is_inside p ≡ true
+Admits p (contexts.Name begin) = HasRoom p
 Admits p (contexts.Tag spaced) = IsTag p
-Admits p (contexts.Attribute name) = IsTag p
-Admits p (contexts.BeforeEquals name) = IsTag p
-Admits p (contexts.BehindEquals name) = IsTag p
-Admits p (contexts.Value name quote value cr) = IsTag p
+Admits p contexts.Attribute = IsTag p
+Admits p contexts.BeforeEquals = IsTag p
+Admits p contexts.BehindEquals = IsTag p
+Admits p (contexts.Value quote cr) = IsTag p
 Admits p (contexts.Reference holder) = AdmitsHolder p holder
-Admits p (contexts.Entity holder part) = AdmitsHolder p holder
+Admits p (contexts.Entity holder) = AdmitsHolder p holder
 Admits p (contexts.NumberSign holder) = AdmitsHolder p holder
 Admits p (contexts.Number holder base number any) = AdmitsHolder p holder × FitsNumber base number
 Admits p (contexts.Due left next) = (left.now ≡ [] → ⊥) × AdmitsThen p next
@@ -136,27 +138,27 @@ Admits p (contexts.EndName read) = is_inside p ≡ true
 Admits p (contexts.Declaration stage spaced) = p ≡ before
 Admits p (contexts.BeforePartEquals part) = p ≡ before
 Admits p (contexts.BehindPartEquals part) = p ≡ before
-Admits p (contexts.PartValue part quote value) = p ≡ before
+Admits p (contexts.PartValue part quote) = p ≡ before
 
 -- a byte of ASCII may end what a context keeps, which is a text, or a name, then
-abbrev pub KeepsWhole : Context → Type 0
-KeepsWhole (contexts.Run text brackets cr) = is_text text.items ≡ true
-KeepsWhole (contexts.Section text brackets cr) = is_text text.items ≡ true
-KeepsWhole (contexts.Name begin name) = is_name name.items ≡ true
-KeepsWhole (contexts.Attribute name) = is_text name.items ≡ true
-KeepsWhole (contexts.Value name quote value cr) = is_text value.items ≡ true
-KeepsWhole _ = Unit {0}
+abbrev pub KeepsWhole : Kept → Context → Type 0
+KeepsWhole k (contexts.Run brackets cr) = is_text k.text.items ≡ true
+KeepsWhole k (contexts.Section brackets cr) = is_text k.text.items ≡ true
+KeepsWhole k (contexts.Name begin) = is_name k.name.items ≡ true
+KeepsWhole k contexts.Attribute = is_text k.name.items ≡ true
+KeepsWhole k (contexts.Value quote cr) = is_text k.text.items ≡ true
+KeepsWhole k _ = Unit {0}
 
 -- a context in which few bytes of a document stand
 abbrev pub is_rare : Context → Bool
 is_rare contexts.Between = false
-is_rare (contexts.Run text brackets cr) = false
+is_rare (contexts.Run brackets cr) = false
 is_rare (contexts.Markup first begin) = false
-is_rare (contexts.Name begin name) = false
+is_rare (contexts.Name begin) = false
 is_rare (contexts.Tag spaced) = false
-is_rare (contexts.Attribute name) = false
-is_rare (contexts.BehindEquals name) = false
-is_rare (contexts.Value name quote value cr) = false
+is_rare contexts.Attribute = false
+is_rare contexts.BehindEquals = false
+is_rare (contexts.Value quote cr) = false
 is_rare (contexts.Due left next) = false
 is_rare (contexts.EndName read) = false
 is_rare _ = true
@@ -167,7 +169,7 @@ pub record IsNewAttribute (p : Nesting) (name : List ℕ) (quote : ℕ) : Type 0
   pub is_new : attr_value name (inner_of p).attrs ≡ None
   pub quoted : quote < 128
 
-abbrev pub WasChecked : Nesting → Context → Type 0
-WasChecked p (contexts.Value name quote value cr) = IsNewAttribute p name.items quote
-WasChecked p (contexts.PartValue part quote value) = is_part_front (part_of part) value.items ≡ true
-WasChecked p _ = Unit {0}
+abbrev pub WasChecked : Nesting → Kept → Context → Type 0
+WasChecked p k (contexts.Value quote cr) = IsNewAttribute p k.name.items quote
+WasChecked p k (contexts.PartValue part quote) = is_part_front (part_of part) k.text.items ≡ true
+WasChecked p k _ = Unit {0}

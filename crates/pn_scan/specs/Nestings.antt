@@ -1,12 +1,11 @@
 -- How the tree is kept as far as it was read, and the nesting in it where a piece of content stands.
-use Rattle.std.specs.Prelude.{◌≡◌, ℕ, ◌-◌, ◌≤◌, Bool, true, false, List, [], ◌∷◌, length, map, reverse, Option, Some, None, is_some, IfSome}
-use Rattle.indexmap.specs.IndexSet.{contains_text}
+use Rattle.std.specs.Prelude.{◌≡◌, ℕ, ◌-◌, ◌≤◌, Bool, true, false, List, [], ◌∷◌, ◌++◌, length, Option, Some, None, is_some, IfSome}
 use Rattle.pn_tree.specs.Building.{innermost, with_kid}
-use Rattle.pn_tree.specs.Elements.{attr_value}
 use Rattle.pn_tree.specs.declared.element.Element.{Element}
 use Rattle.pn_tree.specs.declared.element.Child.TheVariants as children
 use Rattle.pn_markup.specs.Tags.{named}
 use Rattle.pn_scan.specs.State.{Nesting, before, within, behind, room_at}
+use Rattle.pn_scan.specs.Names.{Holds, AreNoted}
 use Rattle.pn_scan.specs.declared.open_tree.OpenTree.{OpenTree}
 use Rattle.pn_scan.specs.declared.open_tree.Where.{Where}
 use Rattle.pn_scan.specs.declared.open_tree.Where.TheVariants.{Before, Within, Behind}
@@ -69,14 +68,16 @@ abbrev pub behind_nesting : ℕ → List Element → Element → Nesting
 behind_nesting levels [] e = behind e
 behind_nesting levels (p ∷ ps) e = within levels (with_kid (children.Element e) p) ps
 
-abbrev pub name_of : Element → List ℕ
-name_of e = e.name
+-- the names of open elements, the innermost last
+abbrev pub names_of : List Element → List (List ℕ)
+names_of [] = []
+names_of (e ∷ outer) = names_of outer ++ (e.name ∷ [])
 
 -- what is kept beside the builder goes with what it holds: the names of the open elements, the names of the attributes of the innermost one while
 -- it has no kids, and whether the root is ended
 pub record Belongs (t : OpenTree) : Type 0 where
-  pub names : reverse t.names.items ≡ map name_of t.builder.open_elements
-  pub attributes : IfSome (innermost t.builder) (λ e. e.kids ≡ [] → (name : List ℕ) → contains_text t.attributes name ≡ is_some (attr_value name e.attrs))
+  pub names : Holds (names_of t.builder.open_elements) t.names
+  pub attributes : IfSome (innermost t.builder) (λ e. e.kids ≡ [] → AreNoted t.attributes e.attrs)
   pub depth : length t.builder.open_elements ≤ 256
   pub root : t.ended ≡ is_some t.builder.root
   pub rooted : t.ended ≡ true → t.builder.open_elements ≡ []

@@ -54,12 +54,12 @@ ordinary_space false = never
 
 -- whether a byte stands for itself in a context
 abbrev pub is_ordinary : Context → ℕ → Bool
-is_ordinary (contexts.Run text brackets cr) = ordinary_text brackets cr
-is_ordinary (contexts.Section text brackets cr) = ordinary_text brackets cr
-is_ordinary (contexts.Name begin name) = is_ordinary_name
+is_ordinary (contexts.Run brackets cr) = ordinary_text brackets cr
+is_ordinary (contexts.Section brackets cr) = ordinary_text brackets cr
+is_ordinary (contexts.Name begin) = is_ordinary_name
 is_ordinary (contexts.Tag spaced) = ordinary_space spaced
-is_ordinary (contexts.Attribute name) = is_ordinary_name
-is_ordinary (contexts.Value name quote value cr) = ordinary_value quote cr
+is_ordinary contexts.Attribute = is_ordinary_name
+is_ordinary (contexts.Value quote cr) = ordinary_value quote cr
 is_ordinary (contexts.Comment dash) = ordinary_but 45 dash
 is_ordinary (contexts.Instruction question) = ordinary_but 63 question
 is_ordinary _ = never

@@ -10,16 +10,17 @@ use Rattle.pn_scan.specs.Open.{open_bytes}
 use Rattle.pn_scan.specs.Fed.{Fed}
 use Rattle.pn_scan.specs.declared.open_tree.OpenTree.{OpenTree}
 use Rattle.pn_scan.specs.declared.context.Context.{Context}
+use Rattle.pn_scan.specs.declared.context.Kept.{Kept}
 use Rattle.pn_scan.specs.declared.characters.Open.{Open}
 use Rattle.pn_scan.specs.declared.scanner.ScanFault.{ScanFault}
 use Rattle.pn_scan.specs.declared.scanner.ScanFault.TheVariants.{Memory, Broken, TooLong}
 use Rattle.pn_scan.specs.declared.scanner.Scanner.{Scanner}
 
--- the bytes so far, as many as this and no more than the limit, lead to the state of this context in this tree
-pub record IsReading (tree : OpenTree) (context : Context) (opened : Open) (count : ℕ) (b : List ℕ) : Type 0 where
+-- the bytes so far, as many as this and no more than the limit, lead to the state of this context in this tree, with what was read of it
+pub record IsReading (tree : OpenTree) (kept : Kept) (context : Context) (opened : Open) (count : ℕ) (b : List ℕ) : Type 0 where
   pub belongs : Belongs tree
   pub fits : Admits (nesting_of tree) context
-  pub fed : Fed (state_of (nesting_of tree) context) (open_bytes opened) b
+  pub fed : Fed (state_of (nesting_of tree) kept context) (open_bytes opened) b
   pub counted : count ≡ length b
   pub within : length b ≤ BYTES
 
@@ -35,15 +36,15 @@ pub record IsTooLong (b : List ℕ) : Type 0 where
   pub front : IsFront (take BYTES b)
 
 -- what the bytes so far are, by the fault that was found. Of want of memory nothing is said
-abbrev pub HasReadTo : Option ScanFault → OpenTree → Context → Open → ℕ → List ℕ → Type 0
-HasReadTo None tree context opened count b = IsReading tree context opened count b
-HasReadTo (Some (Memory e)) tree context opened count b = Unit {0}
-HasReadTo (Some (Broken k)) tree context opened count b = IsBroken b k
-HasReadTo (Some TooLong) tree context opened count b = IsTooLong b
+abbrev pub HasReadTo : Option ScanFault → OpenTree → Kept → Context → Open → ℕ → List ℕ → Type 0
+HasReadTo None tree kept context opened count b = IsReading tree kept context opened count b
+HasReadTo (Some (Memory e)) tree kept context opened count b = Unit {0}
+HasReadTo (Some (Broken k)) tree kept context opened count b = IsBroken b k
+HasReadTo (Some TooLong) tree kept context opened count b = IsTooLong b
 
 -- the scanner was fed these bytes, in any pieces
 abbrev pub HasRead : Scanner → List ℕ → Type 0
-HasRead s b = HasReadTo s.fault s.tree s.context s.opened s.count b
+HasRead s b = HasReadTo s.fault s.tree s.kept s.context s.opened s.count b
 
 -- the fault that the scanner found
 abbrev pub fault_of : Scanner → Option ScanFault
@@ -55,7 +56,7 @@ answer_of None = Ok tt
 answer_of (Some f) = Err f
 
 -- memory was wanted
-abbrev pub IsMemory : Result (Unit {0}) ScanFault → Type 0
+abbrev pub IsMemory : {T : Type 0} → Result T ScanFault → Type 0
 IsMemory (Ok u) = ⊥
 IsMemory (Err (Memory e)) = Unit {0}
 IsMemory (Err (Broken k)) = ⊥
@@ -67,6 +68,6 @@ pub record IsOnlyFront (b : List ℕ) : Type 0 where
   pub none : (t : Element) → IsDocument t b → ⊥
 
 -- whether a document ends in this nesting and context
-abbrev pub EndsAt : Bool → Nesting → Context → Open → Type 0
-EndsAt true p context opened = (state_of p context ≡ at_end (inner_of p)) × (open_bytes opened ≡ [])
-EndsAt false p context opened = (t : Element) → state_of p context ≡ at_end t → open_bytes opened ≡ [] → ⊥
+abbrev pub EndsAt : Bool → Nesting → Kept → Context → Open → Type 0
+EndsAt true p kept context opened = (state_of p kept context ≡ at_end (inner_of p)) × (open_bytes opened ≡ [])
+EndsAt false p kept context opened = (t : Element) → state_of p kept context ≡ at_end t → open_bytes opened ≡ [] → ⊥

@@ -7,7 +7,7 @@ ghost use Rattle.pn_scan.specs.Nestings.{nesting_of, Belongs};
 ghost use Rattle.pn_scan.specs.Contexts.{state_of, Admits, WasChecked, KeepsWhole, is_rare};
 
 use crate::attribute::{attribute, equals, quote, value};
-use crate::context::Context;
+use crate::context::{Context, Kept};
 use crate::declaration::{declaration, part_equals, part_quote, part_value};
 use crate::misc::{bang, comment, due, instruction, markup, outside, start, target};
 use crate::open_tree::OpenTree;
@@ -22,37 +22,33 @@ use std::alloc::{AllocError, Global};
 pub(crate) fn advance(
     alloc: Global,
     tree: &mut OpenTree,
+    kept: &mut Kept,
     context: Context,
     at: u64,
     byte: u8,
 ) -> Result<Option<Context>, AllocError>
     requires belongs { Belongs tree.old }
     requires fits { Admits (nesting_of tree.old) context }
-    requires kept { WasChecked (nesting_of tree.old) context }
-    requires whole { byte < 128 → KeepsWhole context }
-    ensures state { IfOk result (λ m. option_map (state_of (nesting_of tree.new)) m ≡ next_state (state_of (nesting_of tree.old) context) at byte) }
+    requires checked { WasChecked (nesting_of tree.old) kept.old context }
+    requires whole { byte < 128 → KeepsWhole kept.old context }
+    ensures state { IfOk result (λ m. option_map (state_of (nesting_of tree.new) kept.new) m ≡ next_state (state_of (nesting_of tree.old) kept.old context) at byte) }
     ensures fits { IfOk result (λ m. IfSome m (Admits (nesting_of tree.new))) }
     ensures belongs { OnOk result (Belongs tree.new) }
 {
     match context {
-        Context::Between => between(alloc, tree, at, byte),
-        Context::Run { text, brackets, cr } => run(tree, text, brackets, cr, at, byte),
+        Context::Between => between(tree, kept, at, byte),
+        Context::Run { brackets, cr } => run(tree, kept, brackets, cr, at, byte),
         Context::Markup { first, begin } => {
-            markup(alloc, tree.nesting(), tree.has_room(), first, begin, byte)
+            markup(tree.nesting(), tree.has_room(), kept, first, begin, byte)
         }
-        Context::Name { begin, name: part } => name(alloc, tree, begin, part, at, byte),
-        Context::Tag { spaced } => tag(alloc, tree, spaced, byte),
-        Context::Attribute { name } => attribute(tree, name, at, byte),
-        Context::BehindEquals { name } => Ok(quote(alloc, name, byte)),
-        Context::Value {
-            name,
-            quote,
-            value: part,
-            cr,
-        } => value(tree, name, quote, part, cr, byte),
-        Context::Due { left, then } => Ok(due(alloc, left, then, byte)),
+        Context::Name { begin } => name(tree, kept, begin, at, byte),
+        Context::Tag { spaced } => tag(tree, kept, spaced, byte),
+        Context::Attribute => attribute(tree, kept, at, byte),
+        Context::BehindEquals => Ok(quote(kept, byte)),
+        Context::Value { quote, cr } => value(tree, kept, quote, cr, byte),
+        Context::Due { left, then } => Ok(due(kept, left, then, byte)),
         Context::EndName { read } => Ok(end_name(tree, read, at, byte)),
-        other => advance_rare(alloc, tree, other, at, byte),
+        other => advance_rare(alloc, tree, kept, other, at, byte),
     }
 }
 
@@ -61,6 +57,7 @@ pub(crate) fn advance(
 fn advance_rare(
     alloc: Global,
     tree: &mut OpenTree,
+    kept: &mut Kept,
     context: Context,
     at: u64,
     byte: u8,
@@ -68,9 +65,9 @@ fn advance_rare(
     requires rare { is_rare context ≡ true }
     requires belongs { Belongs tree.old }
     requires fits { Admits (nesting_of tree.old) context }
-    requires kept { WasChecked (nesting_of tree.old) context }
-    requires whole { byte < 128 → KeepsWhole context }
-    ensures state { IfOk result (λ m. option_map (state_of (nesting_of tree.new)) m ≡ next_state (state_of (nesting_of tree.old) context) at byte) }
+    requires checked { WasChecked (nesting_of tree.old) kept.old context }
+    requires whole { byte < 128 → KeepsWhole kept.old context }
+    ensures state { IfOk result (λ m. option_map (state_of (nesting_of tree.new) kept.new) m ≡ next_state (state_of (nesting_of tree.old) kept.old context) at byte) }
     ensures fits { IfOk result (λ m. IfSome m (Admits (nesting_of tree.new))) }
     ensures belongs { OnOk result (Belongs tree.new) }
 {
@@ -79,23 +76,23 @@ fn advance_rare(
         Context::First => Ok(outside(true, at, byte)),
         Context::Bang => Ok(bang(tree.nesting(), byte)),
         Context::Comment { dash } => Ok(Some(comment(dash, byte))),
-        Context::Target { first, name } => target(tree.nesting(), first, name, byte),
+        Context::Target { first } => target(tree.nesting(), kept, first, byte),
         Context::Instruction { question } => Ok(Some(instruction(question, byte))),
-        Context::Section { text, brackets, cr } => section(tree, text, brackets, cr, byte),
-        Context::BeforeEquals { name } => Ok(equals(name, byte)),
-        Context::Reference { holder } => reference(alloc, tree, holder, at, byte),
-        Context::Entity { holder, part } => entity(tree, holder, part, byte),
-        Context::NumberSign { holder } => number_sign(alloc, tree, holder, at, byte),
+        Context::Section { brackets, cr } => section(tree, kept, brackets, cr, byte),
+        Context::BeforeEquals => Ok(equals(byte)),
+        Context::Reference { holder } => reference(tree, kept, holder, at, byte),
+        Context::Entity { holder } => entity(tree, kept, holder, byte),
+        Context::NumberSign { holder } => number_sign(alloc, tree, kept, holder, at, byte),
         Context::Number {
             holder,
             base,
             number: so_far,
             any,
-        } => { number(alloc, tree, holder, base, so_far, any, byte) }
+        } => number(alloc, tree, kept, holder, base, so_far, any, byte),
         Context::Declaration { stage, spaced } => Ok(declaration(stage, spaced, byte)),
         Context::BeforePartEquals { part } => Ok(part_equals(part, at, byte)),
-        Context::BehindPartEquals { part } => Ok(part_quote(alloc, part, at, byte)),
-        Context::PartValue { part, quote, value } => part_value(alloc, part, quote, value, byte),
+        Context::BehindPartEquals { part } => Ok(part_quote(kept, part, at, byte)),
+        Context::PartValue { part, quote } => part_value(alloc, kept, part, quote, byte),
         _ => unreachable!(),
     }
 }

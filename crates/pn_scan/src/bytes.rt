@@ -1,10 +1,10 @@
 //! Kinds of bytes.
 
-ghost use Rattle.std.specs.Prelude.{◌≡◌, ◌∷◌, [], IfOk};
+ghost use Rattle.std.specs.Prelude.{◌≡◌, ◌∷◌, [], OnOk};
 ghost use Rattle.pn_text.specs.Characters.{is_name_start, is_name_part};
 ghost use Rattle.pn_markup.specs.Bytes.{is_space, is_quote};
 
-use std::alloc::{AllocError, Global};
+use std::alloc::AllocError;
 
 /// White space (XML 1.0, 2.3).
 pub(crate) fn is_space_byte(byte: u8) -> bool
@@ -34,11 +34,11 @@ pub(crate) fn continues_name(byte: u8) -> bool
     begins_name(byte) || byte.is_ascii_digit() || byte == b'-' || byte == b'.'
 }
 
-/// A name that begins with this byte, with room for a usual one.
-pub(crate) fn begin_name(alloc: Global, byte: u8) -> Result<Vec<u8>, AllocError>
-    ensures { IfOk result (λ name. name.items ≡ byte ∷ []) }
+/// A name begins with this byte.
+pub(crate) fn begin_name(name: &mut Vec<u8>, byte: u8) -> Result<(), AllocError>
+    ensures { OnOk result (name.new.items ≡ byte ∷ []) }
 {
-    let mut name = Vec::with_capacity(alloc, 16)?;
+    name.clear();
     name.push(byte)?;
-    Ok(name)
+    Ok(())
 }

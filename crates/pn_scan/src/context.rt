@@ -1,5 +1,7 @@
 //! What is under way between two bytes.
 
+use std::alloc::Global;
+
 /// How many brackets a run ends in, two at most.
 #[derive(Clone, Copy)]
 pub(crate) enum Brackets {
@@ -26,15 +28,11 @@ pub(crate) enum Stage {
     Nothing,
 }
 
-/// What a reference stands in: content, or the value of an attribute as far as it was read.
-#[derive(Drop)]
+/// What a reference stands in: content, or the value of an attribute in these quotes.
+#[derive(Clone, Copy)]
 pub(crate) enum Holder {
     Content,
-    Value {
-        name: Vec<u8>,
-        quote: u8,
-        value: Vec<u8>,
-    },
+    Value { quote: u8 },
 }
 
 /// What follows bytes that are due.
@@ -52,8 +50,8 @@ pub(crate) enum Then {
     BeforeEquals(Part),
 }
 
-/// What is under way, as far as it was read.
-#[derive(Drop)]
+/// What is under way. What was read of it stands in `Kept`.
+#[derive(Clone, Copy)]
 pub(crate) enum Context {
     /// Nothing was read.
     Start,
@@ -61,9 +59,8 @@ pub(crate) enum Context {
     First,
     /// Between two pieces of content.
     Between,
-    /// A run of characters: what it stands for, the brackets that it ends in, whether in CR.
+    /// A run of characters: the brackets that it ends in, whether in CR.
     Run {
-        text: Vec<u8>,
         brackets: Brackets,
         cr: bool,
     },
@@ -81,44 +78,33 @@ pub(crate) enum Context {
     /// The name of a processing instruction, or of what may be a declaration.
     Target {
         first: bool,
-        name: Vec<u8>,
     },
     /// The text of a processing instruction; whether behind a `?`.
     Instruction {
         question: bool,
     },
-    /// A CDATA section, without the brackets that it ends in, of which a third is text.
+    /// A CDATA section: the brackets that it ends in, which its text is without, whether in CR.
     Section {
-        text: Vec<u8>,
         brackets: Brackets,
         cr: bool,
     },
     /// The name of a tag, whose `<` has this offset.
     Name {
         begin: u64,
-        name: Vec<u8>,
     },
     /// A tag behind its name or an attribute; whether behind white space.
     Tag {
         spaced: bool,
     },
     /// The name of an attribute.
-    Attribute {
-        name: Vec<u8>,
-    },
+    Attribute,
     /// Behind the name of an attribute.
-    BeforeEquals {
-        name: Vec<u8>,
-    },
+    BeforeEquals,
     /// Behind the `=` of an attribute.
-    BehindEquals {
-        name: Vec<u8>,
-    },
-    /// The value of an attribute in these quotes: what it stands for, and whether it ends in CR.
+    BehindEquals,
+    /// The value of an attribute in these quotes, and whether it ends in CR.
     Value {
-        name: Vec<u8>,
         quote: u8,
-        value: Vec<u8>,
         cr: bool,
     },
     /// Behind `&`.
@@ -128,7 +114,6 @@ pub(crate) enum Context {
     /// The name of an entity.
     Entity {
         holder: Holder,
-        part: Vec<u8>,
     },
     /// Behind `&#`.
     NumberSign {
@@ -167,6 +152,26 @@ pub(crate) enum Context {
     PartValue {
         part: Part,
         quote: u8,
-        value: Vec<u8>,
     },
+}
+
+/// What was read of what is under way, in buffers that are used again: the name of a tag, an
+/// attribute or an instruction, what a text or a value stands for so far, and the name of an
+/// entity.
+#[derive(Drop)]
+pub(crate) struct Kept {
+    pub(crate) name: Vec<u8>,
+    pub(crate) text: Vec<u8>,
+    pub(crate) entity: Vec<u8>,
+}
+
+impl Kept {
+    /// Nothing was read yet. Takes no memory.
+    pub(crate) fn new(alloc: Global) -> Kept {
+        Kept {
+            name: Vec::new(alloc),
+            text: Vec::new(alloc),
+            entity: Vec::new(alloc),
+        }
+    }
 }

@@ -13,7 +13,7 @@ ghost use Rattle.pn_scan.specs.NextState.{next_state, next_in_declaration, next_
 ghost use Rattle.pn_scan.specs.Contexts.{state_of, stage_of, part_of, Admits};
 
 use crate::bytes::{is_quote_byte, is_space_byte};
-use crate::context::{Context, Part, Stage, Then};
+use crate::context::{Context, Kept, Part, Stage, Then};
 use crate::reference::is_front;
 use std::alloc::{AllocError, Global};
 
@@ -57,7 +57,7 @@ fn closes(stage: Stage, byte: u8) -> bool
 
 /// The first byte of the word of a part.
 fn begin_part(stage: Stage, byte: u8) -> Option<Context>
-    ensures state { (p : Nesting) → option_map (state_of p) result ≡ part_begins (stage_of stage) byte }
+    ensures state { (p : Nesting) (k : Kept) → option_map (state_of p k) result ≡ part_begins (stage_of stage) byte }
     ensures fits { (p : Nesting) → p ≡ before → IfSome result (Admits p) }
 {
     if byte == b'v' && may_begin(stage, Part::Version) {
@@ -83,7 +83,7 @@ fn begin_part(stage: Stage, byte: u8) -> Option<Context>
 
 /// A byte of the declaration behind a part of it, or behind its beginning.
 pub(crate) fn declaration(stage: Stage, spaced: bool, byte: u8) -> Option<Context>
-    ensures state { (p : Nesting) → p ≡ before → option_map (state_of p) result ≡ next_in_declaration (stage_of stage) spaced byte }
+    ensures state { (p : Nesting) (k : Kept) → p ≡ before → option_map (state_of p k) result ≡ next_in_declaration (stage_of stage) spaced byte }
     ensures fits { (p : Nesting) → p ≡ before → IfSome result (Admits p) }
 {
     if is_space_byte(byte) {
@@ -106,7 +106,7 @@ pub(crate) fn declaration(stage: Stage, spaced: bool, byte: u8) -> Option<Contex
 
 /// A byte behind the word of a part.
 pub(crate) fn part_equals(part: Part, at: u64, byte: u8) -> Option<Context>
-    ensures state { (p : Nesting) → option_map (state_of p) result ≡ next_state (before_part_equals (part_of part)) at byte }
+    ensures state { (p : Nesting) (k : Kept) → option_map (state_of p k) result ≡ next_state (before_part_equals (part_of part)) at byte }
     ensures fits { (p : Nesting) → p ≡ before → IfSome result (Admits p) }
 {
     if is_space_byte(byte) {
@@ -119,19 +119,16 @@ pub(crate) fn part_equals(part: Part, at: u64, byte: u8) -> Option<Context>
 }
 
 /// A byte behind the `=` of a part.
-pub(crate) fn part_quote(alloc: Global, part: Part, at: u64, byte: u8) -> Option<Context>
-    ensures state { (p : Nesting) → option_map (state_of p) result ≡ next_state (behind_part_equals (part_of part)) at byte }
+pub(crate) fn part_quote(kept: &mut Kept, part: Part, at: u64, byte: u8) -> Option<Context>
+    ensures state { (p : Nesting) → option_map (state_of p kept.new) result ≡ next_state (behind_part_equals (part_of part)) at byte }
     ensures fits { (p : Nesting) → p ≡ before → IfSome result (Admits p) }
 {
     if is_space_byte(byte) {
         return Some(Context::BehindPartEquals { part });
     }
     if is_quote_byte(byte) {
-        return Some(Context::PartValue {
-            part,
-            quote: byte,
-            value: Vec::new(alloc),
-        });
+        kept.text.clear();
+        return Some(Context::PartValue { part, quote: byte });
     }
     None
 }
@@ -230,17 +227,17 @@ fn is_part_whole(alloc: Global, part: Part, value: &[u8]) -> Result<bool, AllocE
 /// A byte of the value of a part.
 pub(crate) fn part_value(
     alloc: Global,
+    kept: &mut Kept,
     part: Part,
     quote: u8,
-    mut value: Vec<u8>,
     byte: u8,
 ) -> Result<Option<Context>, AllocError>
-    requires { is_part_front (part_of part) value.items ≡ true }
-    ensures state { IfOk result (λ m. (p : Nesting) → option_map (state_of p) m ≡ next_in_part (part_of part) quote value.items byte) }
+    requires { is_part_front (part_of part) kept.old.text.items ≡ true }
+    ensures state { IfOk result (λ m. (p : Nesting) → option_map (state_of p kept.new) m ≡ next_in_part (part_of part) quote kept.old.text.items byte) }
     ensures fits { IfOk result (λ m. (p : Nesting) → p ≡ before → IfSome m (Admits p)) }
 {
     if byte == quote {
-        if is_part_whole(alloc, part, &value)? {
+        if is_part_whole(alloc, part, &kept.text)? {
             return Ok(Some(Context::Declaration {
                 stage: next_stage(part),
                 spaced: false,
@@ -248,8 +245,8 @@ pub(crate) fn part_value(
         }
         return Ok(None);
     }
-    if put_part_byte(alloc, part, &mut value, byte)? {
-        return Ok(Some(Context::PartValue { part, quote, value }));
+    if put_part_byte(alloc, part, &mut kept.text, byte)? {
+        return Ok(Some(Context::PartValue { part, quote }));
     }
     Ok(None)
 }

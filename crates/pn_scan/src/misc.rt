@@ -10,31 +10,33 @@ ghost use Rattle.pn_scan.specs.Nestings.{IsWhere, IsRoom};
 ghost use Rattle.pn_scan.specs.Contexts.{state_of, then_of, Admits, AdmitsThen};
 
 use crate::bytes::{begin_name, begins_name, continues_name, is_space_byte};
-use crate::context::{Brackets, Context, Stage, Then};
+use crate::context::{Brackets, Context, Kept, Stage, Then};
 use crate::open_tree::Where;
-use std::alloc::{AllocError, Global};
+use std::alloc::AllocError;
 
 /// The context that follows bytes that were due.
-fn context_behind(alloc: Global, then: Then) -> Context
-    ensures state { (p : Nesting) → state_of p result ≡ then_of p then }
+fn context_behind(kept: &mut Kept, then: Then) -> Context
+    ensures state { (p : Nesting) → state_of p kept.new result ≡ then_of p then }
     ensures fits { (p : Nesting) → AdmitsThen p then → Admits p result }
 {
     match then {
         Then::First => Context::First,
         Then::Between => Context::Between,
-        Then::Section => Context::Section {
-            text: Vec::new(alloc),
-            brackets: Brackets::Zero,
-            cr: false,
-        },
+        Then::Section => {
+            kept.text.clear();
+            Context::Section {
+                brackets: Brackets::Zero,
+                cr: false,
+            }
+        }
         Then::Comment => Context::Comment { dash: false },
         Then::BeforeEquals(part) => Context::BeforePartEquals { part },
     }
 }
 
 /// A byte where these bytes are due.
-pub(crate) fn due(alloc: Global, left: &'static [u8], then: Then, byte: u8) -> Option<Context>
-    ensures state { (p : Nesting) → option_map (state_of p) result ≡ next_due left.now (then_of p then) byte }
+pub(crate) fn due(kept: &mut Kept, left: &'static [u8], then: Then, byte: u8) -> Option<Context>
+    ensures state { (p : Nesting) → option_map (state_of p kept.new) result ≡ next_due left.now (then_of p then) byte }
     ensures fits { (p : Nesting) → AdmitsThen p then → IfSome result (Admits p) }
 {
     let (first, rest) = left.split_first()?;
@@ -42,14 +44,14 @@ pub(crate) fn due(alloc: Global, left: &'static [u8], then: Then, byte: u8) -> O
         return None;
     }
     if rest.is_empty() {
-        return Some(context_behind(alloc, then));
+        return Some(context_behind(kept, then));
     }
     Some(Context::Due { left: rest, then })
 }
 
 /// A byte before the root, where a declaration may still come or not.
 pub(crate) fn outside(first: bool, at: u64, byte: u8) -> Option<Context>
-    ensures state { (p : Nesting) → IsWhere Where.Before p → option_map (state_of p) result ≡ next_outside first at byte }
+    ensures state { (p : Nesting) (k : Kept) → IsWhere Where.Before p → option_map (state_of p k) result ≡ next_outside first at byte }
     ensures fits { (p : Nesting) → IfSome result (Admits p) }
 {
     if is_space_byte(byte) {
@@ -63,7 +65,7 @@ pub(crate) fn outside(first: bool, at: u64, byte: u8) -> Option<Context>
 
 /// The first byte of all.
 pub(crate) fn start(at: u64, byte: u8) -> Option<Context>
-    ensures state { (p : Nesting) → IsWhere Where.Before p → option_map (state_of p) result ≡ next_state at_start at byte }
+    ensures state { (p : Nesting) (k : Kept) → IsWhere Where.Before p → option_map (state_of p k) result ≡ next_state at_start at byte }
     ensures fits { (p : Nesting) → IsWhere Where.Before p → IfSome result (Admits p) }
 {
     if byte == 0xEF {
@@ -77,7 +79,7 @@ pub(crate) fn start(at: u64, byte: u8) -> Option<Context>
 
 /// A byte behind `<!`.
 pub(crate) fn bang(nesting: Where, byte: u8) -> Option<Context>
-    ensures state { (p : Nesting) → IsWhere nesting p → option_map (state_of p) result ≡ next_at_bang p byte }
+    ensures state { (p : Nesting) (k : Kept) → IsWhere nesting p → option_map (state_of p k) result ≡ next_at_bang p byte }
     ensures fits { (p : Nesting) → IsWhere nesting p → IfSome result (Admits p) }
 {
     if byte == b'-' {
@@ -97,7 +99,7 @@ pub(crate) fn bang(nesting: Where, byte: u8) -> Option<Context>
 
 /// A byte of a comment.
 pub(crate) fn comment(dash: bool, byte: u8) -> Context
-    ensures state { (p : Nesting) → Some (state_of p result) ≡ next_in_comment p dash byte }
+    ensures state { (p : Nesting) (k : Kept) → Some (state_of p k result) ≡ next_in_comment p dash byte }
     ensures fits { (p : Nesting) → Admits p result }
 {
     if byte != b'-' {
@@ -114,7 +116,7 @@ pub(crate) fn comment(dash: bool, byte: u8) -> Context
 
 /// A byte of the text of a processing instruction.
 pub(crate) fn instruction(question: bool, byte: u8) -> Context
-    ensures state { (p : Nesting) → Some (state_of p result) ≡ next_in_instruction p question byte }
+    ensures state { (p : Nesting) (k : Kept) → Some (state_of p k result) ≡ next_in_instruction p question byte }
     ensures fits { (p : Nesting) → Admits p result }
 {
     if question && byte == b'>' {
@@ -135,7 +137,7 @@ fn is_xml_name(name: &[u8]) -> bool
 /// A byte behind the whole name of a processing instruction, or of a declaration.
 fn behind_target(nesting: Where, first: bool, name: &[u8], byte: u8) -> Option<Context>
     requires { is_name_part byte ≡ false }
-    ensures state { (p : Nesting) → (name.now ≡ [] → ⊥) → IsWhere nesting p → option_map (state_of p) result ≡ next_in_target first p name.now byte }
+    ensures state { (p : Nesting) (k : Kept) → (name.now ≡ [] → ⊥) → IsWhere nesting p → option_map (state_of p k) result ≡ next_in_target first p name.now byte }
     ensures fits { (p : Nesting) → IsWhere nesting p → IfSome result (Admits p) }
 {
     let space = is_space_byte(byte);
@@ -163,54 +165,54 @@ fn behind_target(nesting: Where, first: bool, name: &[u8], byte: u8) -> Option<C
 /// A byte of the name of a processing instruction, or of what may be a declaration.
 pub(crate) fn target(
     nesting: Where,
+    kept: &mut Kept,
     first: bool,
-    mut name: Vec<u8>,
     byte: u8,
 ) -> Result<Option<Context>, AllocError>
-    ensures state { IfOk result (λ m. (p : Nesting) → IsWhere nesting p → option_map (state_of p) m ≡ next_in_target first p name.items byte) }
+    ensures state { IfOk result (λ m. (p : Nesting) → IsWhere nesting p → option_map (state_of p kept.new) m ≡ next_in_target first p kept.old.name.items byte) }
     ensures fits { IfOk result (λ m. (p : Nesting) → IsWhere nesting p → IfSome m (Admits p)) }
 {
-    let more = if name.is_empty() {
+    let more = if kept.name.is_empty() {
         begins_name(byte)
     } else {
         continues_name(byte)
     };
     if more {
-        name.push(byte)?;
-        return Ok(Some(Context::Target { first, name }));
+        kept.name.push(byte)?;
+        return Ok(Some(Context::Target { first }));
     }
-    if name.is_empty() {
+    if kept.name.is_empty() {
         return Ok(None);
     }
-    Ok(behind_target(nesting, first, &name, byte))
+    Ok(behind_target(nesting, first, &kept.name, byte))
 }
 
 /// A byte behind `<`; `room` where an element may begin here.
 pub(crate) fn markup(
-    alloc: Global,
     nesting: Where,
     room: bool,
+    kept: &mut Kept,
     first: bool,
     begin: u64,
     byte: u8,
 ) -> Result<Option<Context>, AllocError>
-    ensures state { IfOk result (λ m. (p : Nesting) → IsWhere nesting p → IsRoom room p → option_map (state_of p) m ≡ next_at_markup first p begin byte) }
+    ensures state { IfOk result (λ m. (p : Nesting) → IsWhere nesting p → IsRoom room p → option_map (state_of p kept.new) m ≡ next_at_markup first p begin byte) }
     ensures fits { IfOk result (λ m. (p : Nesting) → IsWhere nesting p → IsRoom room p → IfSome m (Admits p)) }
 {
     match byte {
         b'!' => Ok(Some(Context::Bang)),
-        b'?' => Ok(Some(Context::Target {
-            first,
-            name: Vec::new(alloc),
-        })),
+        b'?' => {
+            kept.name.clear();
+            Ok(Some(Context::Target { first }))
+        }
         b'/' => match nesting {
             Where::Within => Ok(Some(Context::EndName { read: 0 })),
             _ => Ok(None),
         },
         _ => {
             if room && begins_name(byte) {
-                let name = begin_name(alloc, byte)?;
-                return Ok(Some(Context::Name { begin, name }));
+                begin_name(&mut kept.name, byte)?;
+                return Ok(Some(Context::Name { begin }));
             }
             Ok(None)
         }

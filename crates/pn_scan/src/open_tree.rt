@@ -1,8 +1,6 @@
 //! The tree as far as it was read.
 
-ghost use Rattle.std.specs.Prelude.{◌≡◌, ℕ, List, if◌then◌else◌, ◌<◌, ◌≤◌, ◌+◌, ◌-◌, true, false, [], suc, length, drop, is_some, slice_get, IfSome, OnOk};
-ghost use Rattle.std.specs.Str.{bytes_eq};
-ghost use Rattle.indexmap.specs.IndexSet.{contains_text};
+ghost use Rattle.std.specs.Prelude.{◌≡◌, ◌<◌, ◌≤◌, ◌+◌, ◌-◌, true, false, [], suc, length, drop, is_some, slice_get, IfSome, OnOk};
 ghost use Rattle.pn_text.specs.Characters.{is_name, is_text};
 ghost use Rattle.pn_tree.specs.Building.{with_attr, with_text};
 ghost use Rattle.pn_tree.specs.Elements.{attr_value};
@@ -11,9 +9,8 @@ ghost use Rattle.pn_scan.specs.State.{before, within};
 ghost use Rattle.pn_scan.specs.Nestings.{nesting_of, is_inside, levels_of, inner_of, outer_of, levels_for, outer_for, HasRoom, IsRoom, IsWhere, behind_nesting, Belongs};
 ghost use Rattle.pn_scan.specs.Ordinary.{due_front};
 
+use crate::names::{AttributeNames, Names};
 use crate::ordinary::due_front;
-use indexmap::IndexSet;
-use pn_text::Text;
 use pn_tree::{Builder, Tree};
 use std::alloc::{AllocError, Global};
 
@@ -29,10 +26,9 @@ pub(crate) enum Where {
 /// of the attributes of the innermost one, and whether the root is ended.
 #[derive(Drop)]
 pub(crate) struct OpenTree {
-    alloc: Global,
     builder: Builder,
-    names: Vec<Text>,
-    attributes: IndexSet<String>,
+    names: Names,
+    attributes: AttributeNames,
     ended: bool,
 }
 
@@ -69,15 +65,6 @@ fn front_behind(name: &[u8], read: usize, piece: &[u8]) -> usize
     due_front(&name[read..], piece)
 }
 
-/// Notes the name of an attribute.
-fn note_name(alloc: Global, names: &mut IndexSet<String>, name: &str) -> Result<(), AllocError>
-    ensures { OnOk result ((q : List ℕ)
-        → contains_text names.new q ≡ (if bytes_eq name.now q then true else contains_text names.old q)) }
-{
-    names.insert(String::from_str(alloc, name)?)?;
-    Ok(())
-}
-
 impl OpenTree {
     /// Nothing was read yet. Takes no memory.
     pub(crate) fn new(alloc: Global) -> OpenTree
@@ -85,10 +72,9 @@ impl OpenTree {
         ensures nesting { nesting_of result ≡ before }
     {
         OpenTree {
-            alloc,
             builder: Builder::new(alloc),
-            names: Vec::new(alloc),
-            attributes: IndexSet::new(alloc),
+            names: Names::new(alloc),
+            attributes: AttributeNames::new(alloc),
             ended: false,
         }
     }
@@ -101,7 +87,7 @@ impl OpenTree {
         if self.ended {
             return Where::Behind;
         }
-        if self.names.is_empty() {
+        if self.names.len() == 0 {
             return Where::Before;
         }
         Where::Within
@@ -124,10 +110,9 @@ impl OpenTree {
             (nesting_of self.new ≡ within (levels_for (nesting_of self.old)) (named name.now at) (outer_for (nesting_of self.old))) }
         ensures belongs { OnOk result (Belongs self.new) }
     {
-        let name = as_text(name);
-        self.names.push(Text::from_str(self.alloc, name)?)?;
+        self.names.push(name)?;
         self.attributes.clear();
-        self.builder.begin(name, at)?;
+        self.builder.begin(as_text(name), at)?;
         Ok(())
     }
 
@@ -144,7 +129,7 @@ impl OpenTree {
         ensures belongs { OnOk result (Belongs self.new) }
     {
         let name = as_text(name);
-        note_name(self.alloc, &mut self.attributes, name)?;
+        self.attributes.insert(name)?;
         self.builder.attr(name, as_text(value))?;
         Ok(())
     }
@@ -157,7 +142,7 @@ impl OpenTree {
         requires before_kids { (inner_of (nesting_of self.now)).kids ≡ [] }
         ensures { result ≡ is_some (attr_value name.now (inner_of (nesting_of self.now)).attrs) }
     {
-        self.attributes.contains(as_text(name))
+        self.attributes.contains(name)
     }
 
     /// Gives the innermost open element a text.
@@ -180,10 +165,7 @@ impl OpenTree {
         ensures value { result ≡ slice_get (inner_of (nesting_of self.now)).name index }
         ensures within { IfSome result (λ _. index < usize.MAX) }
     {
-        match self.names.last() {
-            Some(name) => byte_at(name.as_str().as_bytes(), index),
-            None => unreachable!(),
-        }
+        byte_at(self.names.last(), index)
     }
 
     /// How many bytes at the front of a piece are those that are due behind so many of the name of
@@ -195,10 +177,7 @@ impl OpenTree {
         ensures within { result ≤ length piece.now }
         ensures fits { read + result ≤ usize.MAX }
     {
-        match self.names.last() {
-            Some(name) => front_behind(name.as_str().as_bytes(), read, piece),
-            None => unreachable!(),
-        }
+        front_behind(self.names.last(), read, piece)
     }
 
     /// Ends the innermost open element. Takes no memory.
@@ -211,7 +190,7 @@ impl OpenTree {
     {
         self.builder.end();
         self.names.pop();
-        self.ended = self.names.is_empty();
+        self.ended = self.names.len() == 0;
     }
 
     /// The tree, behind its root. Takes no memory.

@@ -3,39 +3,19 @@
 ghost use Rattle.std.specs.Prelude.{◌≡◌, ◌≤◌, ◌++◌, length, take, IfOk};
 ghost use Rattle.std.specs.List.{prefix_len};
 ghost use Rattle.pn_scan.specs.State.{Nesting};
-ghost use Rattle.pn_scan.specs.Contexts.{state_of, Admits};
-ghost use Rattle.pn_scan.specs.Ordinary.{is_ascii, is_ordinary_text, is_ordinary_name, is_ordinary_value, is_ordinary_but, ordinary_text, ordinary_value, ordinary_but, ordinary_space, due_front, is_ordinary, behind_ordinary};
+ghost use Rattle.pn_scan.specs.Contexts.{state_of};
+ghost use Rattle.pn_scan.specs.Ordinary.{is_ordinary_name, is_ordinary_value, ordinary_text, ordinary_value, ordinary_but, ordinary_space, due_front, is_ordinary, behind_ordinary};
 
-use crate::bytes::{continues_name, is_space_byte};
-use crate::context::{Brackets, Context};
+use crate::bytes::is_space_byte;
+use crate::context::{Brackets, Context, Kept};
+use crate::kinds::{is_ascii_byte, is_name_byte, is_text_byte, is_value_part};
 use std::alloc::AllocError;
-
-/// A character of one byte, but CR.
-fn is_ascii_byte(byte: u8) -> bool
-    ensures { result ≡ is_ascii byte }
-{
-    byte == b'\t' || byte == b'\n' || 0x20 <= byte && byte <= 0x7F
-}
-
-/// A byte that stands for itself in content.
-fn is_text_byte(byte: u8) -> bool
-    ensures { result ≡ is_ordinary_text byte }
-{
-    is_ascii_byte(byte) && !(byte == b'<' || byte == b'&' || byte == b'>' || byte == b']')
-}
-
-/// A byte that stands for itself in a name.
-fn is_name_byte(byte: u8) -> bool
-    ensures { result ≡ is_ordinary_name byte }
-{
-    byte < 0x80 && continues_name(byte)
-}
 
 /// A byte that stands for itself in a value in these quotes.
 fn is_value_byte(quote: u8, byte: u8) -> bool
     ensures { result ≡ is_ordinary_value quote byte }
 {
-    0x20 <= byte && byte <= 0x7F && !(byte == quote || byte == b'<' || byte == b'&')
+    byte != quote && is_value_part(byte)
 }
 
 /// How many bytes at the front of a piece stand for themselves in content behind these brackets,
@@ -138,30 +118,30 @@ fn put_front(text: &mut Vec<u8>, piece: &[u8], size: usize) -> Result<usize, All
 /// Takes the bytes at the front of a piece that stand for themselves in a context; answers how
 /// many.
 #[tactic(auto, using(crate::proofs::OrdinaryLemmas::behind_none, crate::proofs::OrdinaryLemmas::never_any))]
-pub(crate) fn take_ordinary(context: &mut Context, piece: &[u8]) -> Result<usize, AllocError>
-    ensures front { IfOk result (λ n. n ≡ prefix_len (is_ordinary context.old) piece.now) }
+pub(crate) fn take_ordinary(
+    kept: &mut Kept,
+    context: Context,
+    piece: &[u8],
+) -> Result<usize, AllocError>
+    ensures front { IfOk result (λ n. n ≡ prefix_len (is_ordinary context) piece.now) }
     ensures within { IfOk result (λ n. n ≤ length piece.now) }
-    ensures state { IfOk result (λ n. (p : Nesting) → state_of p context.new ≡ behind_ordinary (state_of p context.old) (take n piece.now)) }
-    ensures fits { IfOk result (λ n. (p : Nesting) → Admits p context.old → Admits p context.new) }
+    ensures state { IfOk result (λ n. (p : Nesting) → state_of p kept.new context ≡ behind_ordinary (state_of p kept.old context) (take n piece.now)) }
 {
     match context {
-        Context::Run { text, brackets, cr } => {
-            put_front(text, piece, text_front(*brackets, *cr, piece))
+        Context::Run { brackets, cr } => {
+            put_front(&mut kept.text, piece, text_front(brackets, cr, piece))
         }
-        Context::Section { text, brackets, cr } => {
-            put_front(text, piece, text_front(*brackets, *cr, piece))
+        Context::Section { brackets, cr } => {
+            put_front(&mut kept.text, piece, text_front(brackets, cr, piece))
         }
-        Context::Name { name, .. } => put_front(name, piece, name_front(piece)),
-        Context::Tag { spaced } => Ok(space_front(*spaced, piece)),
-        Context::Attribute { name } => put_front(name, piece, name_front(piece)),
-        Context::Value {
-            quote,
-            value,
-            cr,
-            ..
-        } => put_front(value, piece, value_front(*quote, *cr, piece)),
-        Context::Comment { dash } => Ok(front_before(b'-', *dash, piece)),
-        Context::Instruction { question } => Ok(front_before(b'?', *question, piece)),
+        Context::Name { .. } => put_front(&mut kept.name, piece, name_front(piece)),
+        Context::Tag { spaced } => Ok(space_front(spaced, piece)),
+        Context::Attribute => put_front(&mut kept.name, piece, name_front(piece)),
+        Context::Value { quote, cr } => {
+            put_front(&mut kept.text, piece, value_front(quote, cr, piece))
+        }
+        Context::Comment { dash } => Ok(front_before(b'-', dash, piece)),
+        Context::Instruction { question } => Ok(front_before(b'?', question, piece)),
         _ => Ok(0),
     }
 }

@@ -11,16 +11,21 @@ ghost use Rattle.pn_scan.specs.NextState.{next_state, next_in_entity, next_in_nu
 ghost use Rattle.pn_scan.specs.Nestings.{nesting_of, Belongs};
 ghost use Rattle.pn_scan.specs.Contexts.{state_of, holder_of, AdmitsHolder, FitsNumber, Admits};
 
-use crate::context::{Context, Holder};
+use crate::context::{Context, Holder, Kept};
 use crate::open_tree::OpenTree;
 use std::alloc::{AllocError, Global};
 
 /// How it goes on behind a reference that stands for this text.
-fn behind(tree: &mut OpenTree, holder: Holder, text: &[u8]) -> Result<Context, AllocError>
+fn behind(
+    tree: &mut OpenTree,
+    kept: &mut Kept,
+    holder: Holder,
+    text: &[u8],
+) -> Result<Context, AllocError>
     requires belongs { Belongs tree.old }
     requires holder { AdmitsHolder (nesting_of tree.old) holder }
     requires text { is_text text.now ≡ true }
-    ensures state { IfOk result (λ m. state_of (nesting_of tree.new) m ≡ behind_reference (holder_of (nesting_of tree.old) holder) text.now) }
+    ensures state { IfOk result (λ m. state_of (nesting_of tree.new) kept.new m ≡ behind_reference (holder_of (nesting_of tree.old) kept.old.name.items kept.old.text.items holder) text.now) }
     ensures fits { IfOk result (Admits (nesting_of tree.new)) }
     ensures belongs { OnOk result (Belongs tree.new) }
 {
@@ -29,18 +34,9 @@ fn behind(tree: &mut OpenTree, holder: Holder, text: &[u8]) -> Result<Context, A
             tree.text(text)?;
             Ok(Context::Between)
         }
-        Holder::Value {
-            name,
-            quote,
-            mut value,
-        } => {
-            value.extend_from_slice(text)?;
-            Ok(Context::Value {
-                name,
-                quote,
-                value,
-                cr: false,
-            })
+        Holder::Value { quote } => {
+            kept.text.extend_from_slice(text)?;
+            Ok(Context::Value { quote, cr: false })
         }
     }
 }
@@ -89,43 +85,44 @@ fn is_entity_begun(part: &[u8]) -> bool
 /// A byte of the name of an entity.
 pub(crate) fn entity(
     tree: &mut OpenTree,
+    kept: &mut Kept,
     holder: Holder,
-    mut part: Vec<u8>,
     byte: u8,
 ) -> Result<Option<Context>, AllocError>
     requires belongs { Belongs tree.old }
     requires holder { AdmitsHolder (nesting_of tree.old) holder }
-    ensures state { IfOk result (λ m. option_map (state_of (nesting_of tree.new)) m ≡ next_in_entity (holder_of (nesting_of tree.old) holder) part.items byte) }
+    ensures state { IfOk result (λ m. option_map (state_of (nesting_of tree.new) kept.new) m ≡ next_in_entity (holder_of (nesting_of tree.old) kept.old.name.items kept.old.text.items holder) kept.old.entity.items byte) }
     ensures fits { IfOk result (λ m. IfSome m (Admits (nesting_of tree.new))) }
     ensures belongs { OnOk result (Belongs tree.new) }
 {
-    part.push(byte)?;
-    if let Some(text) = entity_of_name(&part) {
-        let context = behind(tree, holder, text)?;
+    kept.entity.push(byte)?;
+    if let Some(text) = entity_of_name(&kept.entity) {
+        let context = behind(tree, kept, holder, text)?;
         return Ok(Some(context));
     }
-    if is_entity_begun(&part) {
-        return Ok(Some(Context::Entity { holder, part }));
+    if is_entity_begun(&kept.entity) {
+        return Ok(Some(Context::Entity { holder }));
     }
     Ok(None)
 }
 
 /// A byte behind `&`.
 pub(crate) fn reference(
-    alloc: Global,
     tree: &mut OpenTree,
+    kept: &mut Kept,
     holder: Holder,
     at: u64,
     byte: u8,
 ) -> Result<Option<Context>, AllocError>
     requires belongs { Belongs tree.old }
     requires holder { AdmitsHolder (nesting_of tree.old) holder }
-    ensures state { IfOk result (λ m. option_map (state_of (nesting_of tree.new)) m ≡ next_state (at_reference (holder_of (nesting_of tree.old) holder)) at byte) }
+    ensures state { IfOk result (λ m. option_map (state_of (nesting_of tree.new) kept.new) m ≡ next_state (at_reference (holder_of (nesting_of tree.old) kept.old.name.items kept.old.text.items holder)) at byte) }
     ensures fits { IfOk result (λ m. IfSome m (Admits (nesting_of tree.new))) }
     ensures belongs { OnOk result (Belongs tree.new) }
 {
     if byte != b'#' {
-        return entity(tree, holder, Vec::new(alloc), byte);
+        kept.entity.clear();
+        return entity(tree, kept, holder, byte);
     }
     Ok(Some(Context::NumberSign { holder }))
 }
@@ -168,13 +165,14 @@ fn digit(base: u32, byte: u8) -> Option<u32>
 fn number_end(
     alloc: Global,
     tree: &mut OpenTree,
+    kept: &mut Kept,
     holder: Holder,
     number: u32,
 ) -> Result<Option<Context>, AllocError>
     requires belongs { Belongs tree.old }
     requires holder { AdmitsHolder (nesting_of tree.old) holder }
-    ensures state { IfOk result (λ m. option_map (state_of (nesting_of tree.new)) m
-        ≡ (if is_character number then Some (behind_reference (holder_of (nesting_of tree.old) holder) (utf8_of number)) else None)) }
+    ensures state { IfOk result (λ m. option_map (state_of (nesting_of tree.new) kept.new) m
+        ≡ (if is_character number then Some (behind_reference (holder_of (nesting_of tree.old) kept.old.name.items kept.old.text.items holder) (utf8_of number)) else None)) }
     ensures fits { IfOk result (λ m. IfSome m (Admits (nesting_of tree.new))) }
     ensures belongs { OnOk result (Belongs tree.new) }
 {
@@ -182,7 +180,7 @@ fn number_end(
         return Ok(None);
     }
     let text = character(alloc, number)?;
-    let context = behind(tree, holder, text.as_bytes())?;
+    let context = behind(tree, kept, holder, text.as_bytes())?;
     Ok(Some(context))
 }
 
@@ -190,6 +188,7 @@ fn number_end(
 pub(crate) fn number(
     alloc: Global,
     tree: &mut OpenTree,
+    kept: &mut Kept,
     holder: Holder,
     base: u32,
     number: u32,
@@ -199,8 +198,8 @@ pub(crate) fn number(
     requires belongs { Belongs tree.old }
     requires holder { AdmitsHolder (nesting_of tree.old) holder }
     requires number { FitsNumber base number }
-    ensures state { IfOk result (λ m. option_map (state_of (nesting_of tree.new)) m
-        ≡ next_in_number (holder_of (nesting_of tree.old) holder) base number any byte) }
+    ensures state { IfOk result (λ m. option_map (state_of (nesting_of tree.new) kept.new) m
+        ≡ next_in_number (holder_of (nesting_of tree.old) kept.old.name.items kept.old.text.items holder) base number any byte) }
     ensures fits { IfOk result (λ m. IfSome m (Admits (nesting_of tree.new))) }
     ensures belongs { OnOk result (Belongs tree.new) }
 {
@@ -217,7 +216,7 @@ pub(crate) fn number(
         }));
     }
     if byte == b';' && any {
-        return number_end(alloc, tree, holder, number);
+        return number_end(alloc, tree, kept, holder, number);
     }
     Ok(None)
 }
@@ -226,18 +225,19 @@ pub(crate) fn number(
 pub(crate) fn number_sign(
     alloc: Global,
     tree: &mut OpenTree,
+    kept: &mut Kept,
     holder: Holder,
     at: u64,
     byte: u8,
 ) -> Result<Option<Context>, AllocError>
     requires belongs { Belongs tree.old }
     requires holder { AdmitsHolder (nesting_of tree.old) holder }
-    ensures state { IfOk result (λ m. option_map (state_of (nesting_of tree.new)) m ≡ next_state (at_number (holder_of (nesting_of tree.old) holder)) at byte) }
+    ensures state { IfOk result (λ m. option_map (state_of (nesting_of tree.new) kept.new) m ≡ next_state (at_number (holder_of (nesting_of tree.old) kept.old.name.items kept.old.text.items holder)) at byte) }
     ensures fits { IfOk result (λ m. IfSome m (Admits (nesting_of tree.new))) }
     ensures belongs { OnOk result (Belongs tree.new) }
 {
     if byte != b'x' {
-        return number(alloc, tree, holder, 10, 0, false, byte);
+        return number(alloc, tree, kept, holder, 10, 0, false, byte);
     }
     Ok(Some(Context::Number {
         holder,

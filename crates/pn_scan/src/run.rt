@@ -10,10 +10,10 @@ ghost use Rattle.pn_scan.specs.Nestings.{nesting_of, is_inside, levels_of, inner
 ghost use Rattle.pn_scan.specs.Contexts.{state_of, brackets_of, next_behind_root, Admits};
 
 use crate::bytes::is_space_byte;
-use crate::context::{Brackets, Context, Holder};
+use crate::context::{Brackets, Context, Holder, Kept};
 use crate::misc::outside;
 use crate::open_tree::{OpenTree, Where};
-use std::alloc::{AllocError, Global};
+use std::alloc::AllocError;
 
 /// The brackets that a run ends in behind one more byte.
 fn next_brackets(brackets: Brackets, byte: u8) -> Brackets
@@ -42,7 +42,7 @@ fn put_line_byte(text: &mut Vec<u8>, cr: bool, byte: u8) -> Result<(), AllocErro
 /// A byte of a run.
 pub(crate) fn run(
     tree: &mut OpenTree,
-    mut text: Vec<u8>,
+    kept: &mut Kept,
     brackets: Brackets,
     cr: bool,
     at: u64,
@@ -50,21 +50,21 @@ pub(crate) fn run(
 ) -> Result<Option<Context>, AllocError>
     requires belongs { Belongs tree.old }
     requires inside { is_inside (nesting_of tree.old) ≡ true }
-    requires whole { byte < 128 → is_text text.items ≡ true }
-    ensures state { IfOk result (λ m. option_map (state_of (nesting_of tree.new)) m
-        ≡ next_in_run (levels_of (nesting_of tree.old)) (inner_of (nesting_of tree.old)) (outer_of (nesting_of tree.old)) text.items (brackets_of brackets) cr at byte) }
+    requires whole { byte < 128 → is_text kept.old.text.items ≡ true }
+    ensures state { IfOk result (λ m. option_map (state_of (nesting_of tree.new) kept.new) m
+        ≡ next_in_run (levels_of (nesting_of tree.old)) (inner_of (nesting_of tree.old)) (outer_of (nesting_of tree.old)) kept.old.text.items (brackets_of brackets) cr at byte) }
     ensures fits { IfOk result (λ m. IfSome m (Admits (nesting_of tree.new))) }
     ensures belongs { OnOk result (Belongs tree.new) }
 {
     if byte == b'<' {
-        tree.text(&text)?;
+        tree.text(&kept.text)?;
         return Ok(Some(Context::Markup {
             first: false,
             begin: at,
         }));
     }
     if byte == b'&' {
-        tree.text(&text)?;
+        tree.text(&kept.text)?;
         return Ok(Some(Context::Reference {
             holder: Holder::Content,
         }));
@@ -72,9 +72,8 @@ pub(crate) fn run(
     if byte == b'>' && matches!(brackets, Brackets::Two) {
         return Ok(None);
     }
-    put_line_byte(&mut text, cr, byte)?;
+    put_line_byte(&mut kept.text, cr, byte)?;
     Ok(Some(Context::Run {
-        text,
         brackets: next_brackets(brackets, byte),
         cr: byte == b'\r',
     }))
@@ -82,7 +81,7 @@ pub(crate) fn run(
 
 /// A byte behind the root.
 fn behind_root(at: u64, byte: u8) -> Option<Context>
-    ensures state { (p : Nesting) → option_map (state_of p) result ≡ next_behind_root p at byte }
+    ensures state { (p : Nesting) (k : Kept) → option_map (state_of p k) result ≡ next_behind_root p at byte }
     ensures fits { (p : Nesting) → IfSome result (Admits p) }
 {
     if is_space_byte(byte) {
@@ -99,20 +98,23 @@ fn behind_root(at: u64, byte: u8) -> Option<Context>
 
 /// A byte between two pieces of content.
 pub(crate) fn between(
-    alloc: Global,
     tree: &mut OpenTree,
+    kept: &mut Kept,
     at: u64,
     byte: u8,
 ) -> Result<Option<Context>, AllocError>
     requires belongs { Belongs tree.old }
-    ensures state { IfOk result (λ m. option_map (state_of (nesting_of tree.new)) m ≡ next_state (behind_piece (nesting_of tree.old)) at byte) }
+    ensures state { IfOk result (λ m. option_map (state_of (nesting_of tree.new) kept.new) m ≡ next_state (behind_piece (nesting_of tree.old)) at byte) }
     ensures fits { IfOk result (λ m. IfSome m (Admits (nesting_of tree.new))) }
     ensures belongs { OnOk result (Belongs tree.new) }
 {
     match tree.nesting() {
         Where::Before => Ok(outside(false, at, byte)),
         Where::Behind => Ok(behind_root(at, byte)),
-        Where::Within => run(tree, Vec::new(alloc), Brackets::Zero, false, at, byte),
+        Where::Within => {
+            kept.text.clear();
+            run(tree, kept, Brackets::Zero, false, at, byte)
+        }
     }
 }
 
@@ -128,26 +130,23 @@ fn put_brackets(text: &mut Vec<u8>, brackets: Brackets) -> Result<(), AllocError
 }
 
 /// A bracket in a section: of three the first is text.
-fn bracket(mut text: Vec<u8>, brackets: Brackets, cr: bool) -> Result<Context, AllocError>
-    ensures state { IfOk result (λ m. (p : Nesting) → state_of p m
-        ≡ bracket_in (levels_of p) (inner_of p) (outer_of p) text.items (brackets_of brackets) cr) }
+fn bracket(kept: &mut Kept, brackets: Brackets, cr: bool) -> Result<Context, AllocError>
+    ensures state { IfOk result (λ m. (p : Nesting) → state_of p kept.new m
+        ≡ bracket_in (levels_of p) (inner_of p) (outer_of p) kept.old.text.items (brackets_of brackets) cr) }
     ensures fits { IfOk result (λ m. (p : Nesting) → is_inside p ≡ true → Admits p m) }
 {
     match brackets {
         Brackets::Zero => Ok(Context::Section {
-            text,
             brackets: Brackets::One,
             cr,
         }),
         Brackets::One => Ok(Context::Section {
-            text,
             brackets: Brackets::Two,
             cr,
         }),
         Brackets::Two => {
-            text.push(b']')?;
+            kept.text.push(b']')?;
             Ok(Context::Section {
-                text,
                 brackets,
                 cr: false,
             })
@@ -157,21 +156,20 @@ fn bracket(mut text: Vec<u8>, brackets: Brackets, cr: bool) -> Result<Context, A
 
 /// A byte of a section that ends in no bracket.
 fn section_byte(
-    mut text: Vec<u8>,
+    kept: &mut Kept,
     brackets: Brackets,
     cr: bool,
     byte: u8,
 ) -> Result<Context, AllocError>
-    ensures state { IfOk result (λ m. (p : Nesting) → state_of p m
+    ensures state { IfOk result (λ m. (p : Nesting) → state_of p kept.new m
         ≡ in_section (levels_of p) (inner_of p) (outer_of p)
-        ((text.items ++ bracket_bytes (brackets_of brackets)) ++ line_text (cr_behind (brackets_of brackets) cr) byte) no_bracket (byte == 13)) }
+        ((kept.old.text.items ++ bracket_bytes (brackets_of brackets)) ++ line_text (cr_behind (brackets_of brackets) cr) byte) no_bracket (byte == 13)) }
     ensures fits { IfOk result (λ m. (p : Nesting) → is_inside p ≡ true → Admits p m) }
 {
-    put_brackets(&mut text, brackets)?;
+    put_brackets(&mut kept.text, brackets)?;
     let behind_cr = cr && matches!(brackets, Brackets::Zero);
-    put_line_byte(&mut text, behind_cr, byte)?;
+    put_line_byte(&mut kept.text, behind_cr, byte)?;
     Ok(Context::Section {
-        text,
         brackets: Brackets::Zero,
         cr: byte == b'\r',
     })
@@ -180,25 +178,25 @@ fn section_byte(
 /// A byte of a CDATA section.
 pub(crate) fn section(
     tree: &mut OpenTree,
-    text: Vec<u8>,
+    kept: &mut Kept,
     brackets: Brackets,
     cr: bool,
     byte: u8,
 ) -> Result<Option<Context>, AllocError>
     requires belongs { Belongs tree.old }
     requires inside { is_inside (nesting_of tree.old) ≡ true }
-    requires whole { byte < 128 → is_text text.items ≡ true }
-    ensures state { IfOk result (λ m. option_map (state_of (nesting_of tree.new)) m
-        ≡ next_in_section (levels_of (nesting_of tree.old)) (inner_of (nesting_of tree.old)) (outer_of (nesting_of tree.old)) text.items (brackets_of brackets) cr byte) }
+    requires whole { byte < 128 → is_text kept.old.text.items ≡ true }
+    ensures state { IfOk result (λ m. option_map (state_of (nesting_of tree.new) kept.new) m
+        ≡ next_in_section (levels_of (nesting_of tree.old)) (inner_of (nesting_of tree.old)) (outer_of (nesting_of tree.old)) kept.old.text.items (brackets_of brackets) cr byte) }
     ensures fits { IfOk result (λ m. IfSome m (Admits (nesting_of tree.new))) }
     ensures belongs { OnOk result (Belongs tree.new) }
 {
     if byte == b']' {
-        return Ok(Some(bracket(text, brackets, cr)?));
+        return Ok(Some(bracket(kept, brackets, cr)?));
     }
     if byte == b'>' && matches!(brackets, Brackets::Two) {
-        tree.text(&text)?;
+        tree.text(&kept.text)?;
         return Ok(Some(Context::Between));
     }
-    Ok(Some(section_byte(text, brackets, cr, byte)?))
+    Ok(Some(section_byte(kept, brackets, cr, byte)?))
 }

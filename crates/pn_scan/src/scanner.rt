@@ -10,13 +10,12 @@ ghost use Rattle.pn_scan.specs.Reading.{IsReading, IsBroken, IsTooLong, IsOnlyFr
 
 use crate::advance::advance;
 use crate::characters::Open;
-use crate::context::{Brackets, Context};
+use crate::context::{Brackets, Context, Kept};
 use crate::open_tree::{OpenTree, Where};
 use crate::ordinary::take_ordinary;
 use pn_outside::limits::BYTES;
 use pn_tree::Tree;
 use std::alloc::{AllocError, Global};
-use std::mem;
 use thiserror::Error;
 
 /// Why a scanner has no tree.
@@ -39,6 +38,7 @@ pub enum ScanFault {
 pub struct Scanner {
     alloc: Global,
     tree: OpenTree,
+    kept: Kept,
     context: Context,
     opened: Open,
     count: u64,
@@ -46,9 +46,9 @@ pub struct Scanner {
 }
 
 /// Whether a document ends here.
-fn is_at_end(context: &Context, nesting: Where, opened: Open) -> bool
+fn is_at_end(context: Context, nesting: Where, opened: Open) -> bool
     ensures behind { result ≡ true → nesting ≡ Where.Behind }
-    ensures ends { (p : Nesting) → IsWhere nesting p → EndsAt result p context.now opened }
+    ensures ends { (p : Nesting) (k : Kept) → IsWhere nesting p → EndsAt result p k context opened }
 {
     match context {
         Context::Between => matches!(nesting, Where::Behind) && matches!(opened, Open::Nothing),
@@ -67,19 +67,20 @@ fn front_of(piece: &[u8], room: u64) -> &[u8]
     &piece[..room as usize]
 }
 
-/// Between two pieces within an element a run begins.
-fn begin_run(alloc: Global, tree: &OpenTree, context: &mut Context)
+/// What is under way with a run begun between two pieces within an element.
+fn begin_run(tree: &OpenTree, kept: &mut Kept, context: Context) -> Context
     requires { Belongs tree.now }
-    ensures state { state_of (nesting_of tree.now) context.new ≡ state_of (nesting_of tree.now) context.old }
-    ensures fits { Admits (nesting_of tree.now) context.old → Admits (nesting_of tree.now) context.new }
+    ensures state { state_of (nesting_of tree.now) kept.new result ≡ state_of (nesting_of tree.now) kept.old context }
+    ensures fits { Admits (nesting_of tree.now) context → Admits (nesting_of tree.now) result }
 {
     if matches!(context, Context::Between) && matches!(tree.nesting(), Where::Within) {
-        *context = Context::Run {
-            text: Vec::new(alloc),
+        kept.text.clear();
+        return Context::Run {
             brackets: Brackets::Zero,
             cr: false,
         };
     }
+    context
 }
 
 impl Scanner {
@@ -91,6 +92,7 @@ impl Scanner {
         Scanner {
             alloc,
             tree: OpenTree::new(alloc),
+            kept: Kept::new(alloc),
             context: Context::Start,
             opened: Open::Nothing,
             count: 0,
@@ -100,9 +102,9 @@ impl Scanner {
 
     /// Takes a byte; answers the fault that it makes.
     fn read(&mut self, byte: u8) -> Option<ScanFault>
-        requires { (b : List ℕ) × IsReading self.old.tree self.old.context self.old.opened self.old.count b }
-        ensures { (b : List ℕ) → IsReading self.old.tree self.old.context self.old.opened self.old.count b
-            → HasReadTo result self.new.tree self.new.context self.new.opened self.new.count (b ++ byte ∷ []) }
+        requires { (b : List ℕ) × IsReading self.old.tree self.old.kept self.old.context self.old.opened self.old.count b }
+        ensures { (b : List ℕ) → IsReading self.old.tree self.old.kept self.old.context self.old.opened self.old.count b
+            → HasReadTo result self.new.tree self.new.kept self.new.context self.new.opened self.new.count (b ++ byte ∷ []) }
     {
         if self.count == BYTES {
             return Some(ScanFault::TooLong);
@@ -110,8 +112,14 @@ impl Scanner {
         let Some(opened) = self.opened.next(byte) else {
             return Some(ScanFault::Broken(self.count));
         };
-        let context = mem::replace(&mut self.context, Context::Start);
-        match advance(self.alloc, &mut self.tree, context, self.count, byte) {
+        match advance(
+            self.alloc,
+            &mut self.tree,
+            &mut self.kept,
+            self.context,
+            self.count,
+            byte,
+        ) {
             Ok(Some(context)) => {
                 self.context = context;
                 self.opened = opened;
@@ -125,17 +133,18 @@ impl Scanner {
 
     /// Takes the bytes at the front of a piece that stand for themselves here; answers how many.
     fn read_ordinary(&mut self, piece: &[u8]) -> Result<usize, AllocError>
-        requires { (b : List ℕ) × IsReading self.old.tree self.old.context self.old.opened self.old.count b }
+        requires { (b : List ℕ) × IsReading self.old.tree self.old.kept self.old.context self.old.opened self.old.count b }
         ensures within { IfOk result (λ n. n ≤ length piece.now) }
-        ensures read { IfOk result (λ n. (b : List ℕ) → IsReading self.old.tree self.old.context self.old.opened self.old.count b
-            → IsReading self.new.tree self.new.context self.new.opened self.new.count (b ++ take n piece.now)) }
+        ensures read { IfOk result (λ n. (b : List ℕ) → IsReading self.old.tree self.old.kept self.old.context self.old.opened self.old.count b
+            → IsReading self.new.tree self.new.kept self.new.context self.new.opened self.new.count (b ++ take n piece.now)) }
         ensures fault { fault_of self.new ≡ fault_of self.old }
     {
         let Open::Nothing = self.opened else {
             return Ok(0);
         };
-        begin_run(self.alloc, &self.tree, &mut self.context);
-        let ordinary = take_ordinary(&mut self.context, front_of(piece, BYTES - self.count))?;
+        self.context = begin_run(&self.tree, &mut self.kept, self.context);
+        let front = front_of(piece, BYTES - self.count);
+        let ordinary = take_ordinary(&mut self.kept, self.context, front)?;
         self.count += ordinary as u64;
         Ok(ordinary)
     }
@@ -143,10 +152,10 @@ impl Scanner {
     /// Takes the bytes at the front of a piece that are due of the name of an end tag; answers how
     /// many.
     fn read_name(&mut self, piece: &[u8]) -> usize
-        requires { (b : List ℕ) × IsReading self.old.tree self.old.context self.old.opened self.old.count b }
+        requires { (b : List ℕ) × IsReading self.old.tree self.old.kept self.old.context self.old.opened self.old.count b }
         ensures within { result ≤ length piece.now }
-        ensures read { (b : List ℕ) → IsReading self.old.tree self.old.context self.old.opened self.old.count b
-            → IsReading self.new.tree self.new.context self.new.opened self.new.count (b ++ take result piece.now) }
+        ensures read { (b : List ℕ) → IsReading self.old.tree self.old.kept self.old.context self.old.opened self.old.count b
+            → IsReading self.new.tree self.new.kept self.new.context self.new.opened self.new.count (b ++ take result piece.now) }
         ensures fault { fault_of self.new ≡ fault_of self.old }
     {
         let Open::Nothing = self.opened else {
@@ -249,9 +258,9 @@ impl Scanner {
     fn is_whole(&self) -> bool
         requires { Belongs self.now.tree }
         ensures behind { result ≡ true → IsWhere Where.Behind (nesting_of self.now.tree) }
-        ensures ends { EndsAt result (nesting_of self.now.tree) self.now.context self.now.opened }
+        ensures ends { EndsAt result (nesting_of self.now.tree) self.now.kept self.now.context self.now.opened }
     {
-        is_at_end(&self.context, self.tree.nesting(), self.opened)
+        is_at_end(self.context, self.tree.nesting(), self.opened)
     }
 
     /// The tree, behind its root.
@@ -265,8 +274,8 @@ impl Scanner {
 
     /// The end, where no fault was found.
     fn end(self) -> Result<Tree, ScanFault>
-        requires { (b : List ℕ) × IsReading self.tree self.context self.opened self.count b }
-        ensures ends { (b : List ℕ) → IsReading self.tree self.context self.opened self.count b
+        requires { (b : List ℕ) × IsReading self.tree self.kept self.context self.opened self.count b }
+        ensures ends { (b : List ℕ) → IsReading self.tree self.kept self.context self.opened self.count b
             → MatchResult result (λ t. IsDocument t b) (λ f. (f ≡ ScanFault.Broken (length b)) × IsOnlyFront b) }
         ensures ordered { IfOk result HasRisingOffsets }
     {
@@ -279,13 +288,15 @@ impl Scanner {
     }
 
     /// The tree that all bytes spell, or `Broken` with their number where they begin a document
-    /// and are none. A fault of `feed` is answered again.
+    /// and are none. A fault of `feed` is answered again. Takes no memory, so where `feed` answered
+    /// no fault this never answers `Memory`.
     pub fn finish(self) -> Result<Tree, ScanFault>
         requires { (b : List ℕ) × HasRead self b }
         ensures again { (f : ScanFault) → fault_of self ≡ Some f → result ≡ Err f }
         ensures ends { (b : List ℕ) → fault_of self ≡ None → HasRead self b
             → MatchResult result (λ t. IsDocument t b) (λ f. (f ≡ ScanFault.Broken (length b)) × IsOnlyFront b) }
         ensures ordered { IfOk result HasRisingOffsets }
+        ensures no_memory { fault_of self ≡ None → IsMemory result → ⊥ }
     {
         match self.fault {
             Some(fault) => {

@@ -7,6 +7,9 @@ use Rattle.pn_scan.proofs.NextStateLemmas.{if_false}
 use Rattle.pn_scan.proofs.misc.start.Goals as goal
 
 pub returns-clause-state : goal.returns-clause-state
-returns-clause-state c p w =
+returns-clause-state c p k w =
     let other : nat_eq c.args.byte 239 ≡ false = grind (arith, nat_tests) in
-    c.outside.ensures.state p w ∙ sym (if_false (nat_eq c.args.byte 239) (Some (due (0xBB ∷ 0xBF ∷ []) (outside true))) (next_outside true c.args.at c.args.byte) other)
+    c.outside.ensures.state p k w ∙ sym (if_false (nat_eq c.args.byte 239) (Some (due (0xBB ∷ 0xBF ∷ []) (outside true))) (next_outside true c.args.at c.args.byte) other)
+
+pub returns-clause-fits : goal.returns-clause-fits
+returns-clause-fits c p w = c.outside.ensures.fits p

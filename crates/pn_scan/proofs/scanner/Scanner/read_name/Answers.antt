@@ -7,5 +7,5 @@ use Rattle.pn_scan.proofs.scanner.Scanner.read_name.Goals as goal
 pub returns-clause-read : goal.returns-clause-read
 returns-clause-read c b r =
     let s = c.args.self.now in
-    name_read s.tree s.context s.opened s.count (BYTES - s.count) c.in-EndName.read c.name_front-size.result b c.args.piece.now c.front_of.result.now r (ap open_bytes c.in-Nothing.is)
+    name_read s.tree s.kept s.context s.opened s.count (BYTES - s.count) c.in-EndName.read c.name_front-size.result b c.args.piece.now c.front_of.result.now r (ap open_bytes c.in-Nothing.is)
     c.in-EndName.is refl c.front_of.ensures c.name_front-size.ensures.value

@@ -3,7 +3,7 @@ use Rattle.std.specs.Str.{bytes_eq}
 use Rattle.std.specs.String.{string_bytes}
 use Rattle.std.proofs.lemmas.Map.Text.{hash_set_updates_text}
 use Rattle.indexmap.specs.IndexSet.{contains_text}
-use Rattle.pn_scan.proofs.open_tree.note_name.Goals as goal
+use Rattle.pn_scan.proofs.names.put_name.Goals as goal
 
 pub returns : goal.returns
 returns c q =
