@@ -153,7 +153,7 @@ kid_parts levels e k h p = record {
 
 -- the open elements
 
-parts_at : (n : ℕ) (e : Element) → is_element n e ≡ true → (k : ℕ) × (n ≡ suc k) × Parts k e
+pub parts_at : (n : ℕ) (e : Element) → is_element n e ≡ true → (k : ℕ) × (n ≡ suc k) × Parts k e
 parts_at zero e h = absurd (not_element-zero e h)
 parts_at (suc k) e h = (k, refl, parts_of k e h)
 
