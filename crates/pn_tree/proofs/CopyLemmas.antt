@@ -1,5 +1,5 @@
 -- A copy of an element, given piece by piece.
-use Rattle.std.proofs.Common.{◌≡◌, ℕ, zero, suc, ◌+◌, ◌*◌, ◌<◌, ◌≤◌, Bool, true, false, ◌&&◌, not, cond, List, [], ◌∷◌, ◌++◌, length, take, Option, Some, None, IsSome, IfSome, refl, sym, ap, ◌∙◌, subst, arith, append-nil, append_assoc}
+use Rattle.std.proofs.Common.{◌≡◌, ℕ, zero, suc, ◌+◌, ◌*◌, ◌<◌, ◌≤◌, Bool, true, false, ◌&&◌, not, cond, List, [], ◌∷◌, ◌++◌, length, take, Option, Some, None, IsSome, IfSome, refl, sym, ap, ◌∙◌, subst, arith, append_assoc}
 use Rattle.std.specs.List.{list_all, slice_get}
 use Rattle.std.specs.Option.{is_none}
 use Rattle.std.specs.Str.{bytes_eq}
@@ -9,7 +9,7 @@ use Rattle.pn_facts.proofs.Options.{cond_none, none_from}
 use Rattle.pn_facts.proofs.Bytes.{bytes_differ}
 use Rattle.pn_text.specs.Characters.{is_name, is_text}
 use Rattle.pn_tree.specs.Elements.{attr_value, are_attrs, is_text_kid, is_text_layer, begins_with_text, are_apart, is_kid, is_kid_text, is_element, IsTree}
-use Rattle.pn_tree.specs.Building.{Building, innermost, at_first, at_innermost, with_attr, with_kid, with_text, joined, joined_last, closed}
+use Rattle.pn_tree.specs.Building.{Building, innermost, at_first, at_innermost, with_attr, with_text, joined, joined_last}
 use Rattle.pn_tree.specs.Copies.{IsBlank, HasNoKids, with_attrs, with_kids, with_shown, KidFits}
 use Rattle.pn_tree.specs.Depth.{depth_of}
 use Rattle.pn_tree.specs.Walks.{kid_size}
@@ -81,10 +81,6 @@ ready_first root (e ∷ es) xs i a blank new = record {
 pub ready : (b d : Building) (xs : List Attr) (i : ℕ) (a : Attr) → d ≡ at_innermost (with_attrs (take i xs)) b → IsBlank (innermost b) → Valid xs i a → Ready d a
 ready b d xs i a is blank valid = subst (λ x. Ready x a) (sym is) (ready_first b.root b.open_elements xs i a blank valid.new)
 
-pub attrs_none : (opens : List Element) → at_first (with_attrs []) opens ≡ opens
-attrs_none [] = refl
-attrs_none (e ∷ es) = let same : e.attrs ++ [] ≡ e.attrs = append-nil e.attrs in λ j. record e { attrs = same j } ∷ es
-
 attrs_first : (opens : List Element) (xs : List Attr) (i : ℕ) (a : Attr) → take (i + 1) xs ≡ take i xs ++ (a ∷ [])
     → at_first (with_attr a.name a.value) (at_first (with_attrs (take i xs)) opens) ≡ at_first (with_attrs (take (i + 1) xs)) opens
 attrs_first [] xs i a next = refl
@@ -99,10 +95,6 @@ attrs_more b d f xs i a old new is =
     new ∙ ap (at_innermost (with_attr a.name a.value)) old ∙ (λ j. record { root = b.root; open_elements = same j })
 
 -- kids
-
-pub kids_none : (opens : List Element) → at_first (with_kids []) opens ≡ opens
-kids_none [] = refl
-kids_none (e ∷ es) = let same : e.kids ++ [] ≡ e.kids = append-nil e.kids in λ j. record e { kids = same j } ∷ es
 
 after_kid : (t : List ℕ) (k : Child) (l : layer.Child-F Child Element) → out-Child k ≡ l → is_text_kid k ≡ false → joined_last t k l ≡ k ∷ children.Text t ∷ []
 after_kid t k (layer.Element e) is other = refl
@@ -130,10 +122,6 @@ joined_next (k ∷ l ∷ ks) (suc (suc i)) t h is =
 text_given : (t : List ℕ) (e : Element) → is_kid_text t ≡ true → ◌≡◌ {A = Element} (with_text t e) (record e { kids = joined t e.kids })
 text_given [] e h = absurd (false≢true h)
 text_given (x ∷ t) e h = refl
-
-kids_text : (t : List ℕ) → is_kid_text t ≡ true → is_text t ≡ true
-kids_text [] h = absurd (false≢true h)
-kids_text (x ∷ t) h = h
 
 shown_first : (e : Element) (es : List Element) (ks : List Child) (i : ℕ) (k : Kid) → e.kids ≡ [] → are_apart ks ≡ true → list_all (is_kid (is_element 255)) ks ≡ true
     → slice_get ks i ≡ Some (child_of k) → with_shown k (with_kids (take i ks) e) ≡ with_kids (take (i + 1) ks) e
@@ -175,7 +163,11 @@ kid_open b d change is none = subst (λ x. IsSome (innermost x)) (sym is) (still
 kid_fits : (n m : ℕ) (k : Kid) (ks : List Child) (i : ℕ) → list_all (is_kid (is_element 255)) ks ≡ true → slice_get ks i ≡ Some (child_of k) → IsShallower k m → n + m ≤ 257 → KidFits n k
 kid_fits n m (kids.Element v) ks i all is less le = omega arith
 kid_fits n m (kids.Text t) ks i all is less le =
-    kids_text t.now (sym (is_kid-text (is_element 255) t.now) ∙ list_all_at (is_kid (is_element 255)) ks i (children.Text t.now) is all)
+    by t.now (sym (is_kid-text (is_element 255) t.now) ∙ list_all_at (is_kid (is_element 255)) ks i (children.Text t.now) is all)
+  where
+    by : (l : List ℕ) → is_kid_text l ≡ true → is_text l ≡ true
+    by [] h = absurd (false≢true h)
+    by (x ∷ l) h = h
 
 pub fits : (b d : Building) (change : Element → Element) (e : Element) (k : Kid) (i : ℕ) → d ≡ at_innermost change b → IsTree e → slice_get e.kids i ≡ Some (child_of k)
     → IsShallower k (depth_of e) → length b.open_elements + depth_of e ≤ 257 → KidFits (length d.open_elements) k
@@ -186,12 +178,3 @@ fits b d change e k i same tree is less le =
 pub size_less : (k : Kid) (levels : ℕ) → IsShallower k levels → kid_size k < 3 * levels + 1
 size_less (kids.Element v) levels less = omega arith
 size_less (kids.Text t) levels less = omega arith
-
--- a whole element is the last kid of the innermost one
-pub placed_in : (b : Building) (e : Element) → IsSome (innermost b) → closed b.root (e ∷ b.open_elements) ≡ at_innermost (with_kid (children.Element e)) b
-placed_in b e some = by b.open_elements some
-  where
-    by : (opens : List Element) → IsSome (innermost (record { root = b.root; open_elements = opens }))
-        → closed b.root (e ∷ opens) ≡ at_innermost (with_kid (children.Element e)) (record { root = b.root; open_elements = opens })
-    by [] none = absurd (false≢true none)
-    by (x ∷ xs) is = refl

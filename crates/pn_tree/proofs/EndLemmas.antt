@@ -7,8 +7,8 @@ use Rattle.std.proofs.lemmas.List.{map-append, take-append-drop}
 use Rattle.std.proofs.lemmas.List.Elements.{All-append}
 use Rattle.pn_facts.proofs.Truths.{and_left}
 use Rattle.pn_text.specs.Characters.{is_name}
-use Rattle.pn_tree.specs.Tables.{cut, Content, attr_in, kid_in, made_of, no_node, element_in, IsSpan, IsPairIn, IsSlotIn, IsHeadIn, IsNodeIn, AreWithin, HaveGrown}
-use Rattle.pn_tree.specs.Changes.{IsBegun, HasBytes, IsEnclosed, IsClosed}
+use Rattle.pn_tree.specs.Tables.{cut, TableLists, attr_in, kid_in, made_of, no_node, element_in, IsSpan, IsPairIn, IsSlotIn, IsHeadIn, IsNodeIn, AreWithin, HaveGrown}
+use Rattle.pn_tree.specs.Changes.{IsNewNode, HasBytes, IsEnclosed, IsClosed}
 use Rattle.pn_tree.specs.Building.{Building, begun, with_kid, ended}
 use Rattle.pn_tree.specs.Elements.{is_element, IsTree}
 use Rattle.pn_tree.specs.Frames.{so_far, stacked, all_open, are_open, AreSideBySide, IsOpen, IsRoot}
@@ -24,12 +24,12 @@ use Rattle.pn_tree.proofs.SiteLemmas.{put_says, put_there, bytes_grown, SideLast
 
 -- the beginning of an element
 
-pub record Begun (t u : Content) (ps qs : List Slot) (outer around : List Node) (i : Option Node) (g : Node) (name : List ℕ) (at : ℕ) : Type 0 where
+pub record WasBegun (t u : TableLists) (ps qs : List Slot) (outer around : List Node) (i : Option Node) (g : Node) (name : List ℕ) (at : ℕ) : Type 0 where
   pub opened : IsOpen u qs around g
   pub own : so_far u qs g ≡ record { name = name; at = at; attrs = []; kids = [] }
   pub others : stacked u qs around [] ≡ all_open t ps i outer
 
-begun_own : (t u : Content) (qs : List Slot) (g : Node) (name : List ℕ) (at attrs kids : ℕ) → IsBegun t.bytes u.bytes name at attrs kids g
+begun_own : (t u : TableLists) (qs : List Slot) (g : Node) (name : List ℕ) (at attrs kids : ℕ) → IsNewNode t.bytes u.bytes name at attrs kids g
     → so_far u qs g ≡ record { name = name; at = at; attrs = []; kids = [] }
 begun_own t u qs g name at attrs kids b =
     let n : cut g.name u.bytes ≡ name = put_says t.bytes u.bytes name g.name b.called in
@@ -40,10 +40,10 @@ begun_own t u qs g name at attrs kids b =
     ap (λ s. map (kid_in (element_in 256 u) u.bytes) (cut s qs)) b.own_kids ∙ ap (map (kid_in (element_in 256 u) u.bytes)) (cut_empty (record { start = kids; end = kids }) qs refl) in
     λ j. record { name = n j; at = o j; attrs = a j; kids = k j }
 
-begun_all : (t u : Content) (ps qs : List Slot) (outer around : List Node) (i : Option Node) (g : Node) (name : List ℕ) (at : ℕ) → HasBytes t u
-    → IsBegun t.bytes u.bytes name at (length t.attrs) (length qs) g → is_name name ≡ true → length (all_open t ps i outer) < 256 → are_open (all_open t ps i outer) ≡ true
+begun_all : (t u : TableLists) (ps qs : List Slot) (outer around : List Node) (i : Option Node) (g : Node) (name : List ℕ) (at : ℕ) → HasBytes t u
+    → IsNewNode t.bytes u.bytes name at (length t.attrs) (length qs) g → is_name name ≡ true → length (all_open t ps i outer) < 256 → are_open (all_open t ps i outer) ≡ true
     → All (IsSlotIn u.bytes (length u.nodes)) qs → All (IsHeadIn u) around → AreSideBySide 0 around (length qs) → stacked u qs around [] ≡ all_open t ps i outer
-    → Begun t u ps qs outer around i g name at
+    → WasBegun t u ps qs outer around i g name at
 begun_all t u ps qs outer around i g name at h b n lt fits places heads side others =
     let own = begun_own t u qs g name at (length t.attrs) (length qs) b in
     let first : g.kids.start ≡ length qs = ap (λ (s : Span). s.start) b.own_kids in
@@ -70,9 +70,9 @@ begun_all t u ps qs outer around i g name at h b n lt fits places heads side oth
       others = others;
     }
 
-pub begun_changed : (t u : Content) (ps qs : List Slot) (outer around : List Node) (i : Option Node) (g : Node) (name : List ℕ) (at : ℕ) → HasBytes t u
-    → IsBegun t.bytes u.bytes name at (length t.attrs) (length qs) g → IsEnclosed i outer ps around qs → AreWithin t → IfSome i (IsOpen t ps outer) → is_name name ≡ true
-    → length (all_open t ps i outer) < 256 → Begun t u ps qs outer around i g name at
+pub begun_changed : (t u : TableLists) (ps qs : List Slot) (outer around : List Node) (i : Option Node) (g : Node) (name : List ℕ) (at : ℕ) → HasBytes t u
+    → IsNewNode t.bytes u.bytes name at (length t.attrs) (length qs) g → IsEnclosed i outer ps around qs → AreWithin t → IfSome i (IsOpen t ps outer) → is_name name ≡ true
+    → length (all_open t ps i outer) < 256 → WasBegun t u ps qs outer around i g name at
 begun_changed t u ps qs outer around None g name at h b e w o n lt =
     begun_all t u ps qs outer around None g name at h b n lt refl (subst (All (IsSlotIn u.bytes (length u.nodes))) (sym e.1) (all_none (IsSlotIn u.bytes (length u.nodes))))
     (subst (All (IsHeadIn u)) (sym e.0) (all_none (IsHeadIn u)))
@@ -95,8 +95,8 @@ begun_changed t u ps qs outer around (Some f) g name at h b e w o n lt =
     (subst (λ l. AreSideBySide 0 l (length qs)) (sym e.0) side)
     (ap (λ l. stacked u qs l []) e.0 ∙ stacked-push u qs outer f [] ∙ (λ j. own j ∷ rest j))
 
-pub begun_built : (t u : Content) (ps qs : List Slot) (outer around : List Node) (i : Option Node) (g : Node) (name : List ℕ) (at : ℕ) (root : Option ℕ)
-    → Begun t u ps qs outer around i g name at → HasBytes t u → AreWithin t → IfSome root (IsRoot t)
+pub begun_built : (t u : TableLists) (ps qs : List Slot) (outer around : List Node) (i : Option Node) (g : Node) (name : List ℕ) (at : ℕ) (root : Option ℕ)
+    → WasBegun t u ps qs outer around i g name at → HasBytes t u → AreWithin t → IfSome root (IsRoot t)
     → ◌≡◌ {A = Building} (record { root = option_map (element_in 256 u) root; open_elements = so_far u qs g ∷ stacked u qs around [] })
     (begun name at (record { root = option_map (element_in 256 t) root; open_elements = all_open t ps i outer }))
 begun_built t u ps qs outer around i g name at root b h w r =
@@ -107,7 +107,7 @@ begun_built t u ps qs outer around i g name at root b h w r =
 
 -- the end of an element
 
-abbrev pub closed_grown : (t u : Content) (ps rs : List Slot) (f : Node) → IsClosed t u ps rs f → HaveGrown t u
+abbrev pub closed_grown : (t u : TableLists) (ps rs : List Slot) (f : Node) → IsClosed t u ps rs f → HaveGrown t u
 closed_grown t u ps rs f h = record {
   bytes = ([], h.bytes ∙ sym (append-nil t.bytes));
   attrs = ([], h.attrs ∙ sym (append-nil t.attrs));
@@ -115,7 +115,7 @@ closed_grown t u ps rs f h = record {
   nodes = (record f { kids = record { start = length t.kids; end = length u.kids } } ∷ [], h.nodes);
 }
 
-pub closed_within : (t u : Content) (ps rs : List Slot) (outer : List Node) (f : Node) → IsClosed t u ps rs f → AreWithin t → IsOpen t ps outer f → AreWithin u
+pub closed_within : (t u : TableLists) (ps rs : List Slot) (outer : List Node) (f : Node) → IsClosed t u ps rs f → AreWithin t → IsOpen t ps outer f → AreWithin u
 closed_within t u ps rs outer f h w o =
     let g = closed_grown t u ps rs f h in
     let n : Node = record f { kids = record { start = length t.kids; end = length u.kids } } in
@@ -128,7 +128,7 @@ closed_within t u ps rs outer f h w o =
     (slots_grown t u g (drop f.kids.start ps) (all_drop (IsSlotIn t.bytes (length t.nodes)) f.kids.start ps o.places)) (all_one (IsNodeIn u) n there)
 
 -- the node is the element that was open
-pub closed_is : (t u : Content) (ps rs : List Slot) (outer : List Node) (f : Node) → IsClosed t u ps rs f → AreWithin t → IsOpen t ps outer f
+pub closed_is : (t u : TableLists) (ps rs : List Slot) (outer : List Node) (f : Node) → IsClosed t u ps rs f → AreWithin t → IsOpen t ps outer f
     → element_in 256 u (length t.nodes) ≡ so_far t ps f
 closed_is t u ps rs outer f h w o =
     let g = closed_grown t u ps rs f h in
@@ -149,7 +149,7 @@ closed_is t u ps rs outer f h w o =
     ∙ same_element f.at (name_grown t u g f o.head) (attrs_grown t u g w.attrs f o.head) kids
 
 -- it was the root
-pub closed_root : (t u : Content) (ps rs : List Slot) (outer : List Node) (f : Node) → IsClosed t u ps rs f → AreWithin t → IsOpen t ps outer f → outer ≡ []
+pub closed_root : (t u : TableLists) (ps rs : List Slot) (outer : List Node) (f : Node) → IsClosed t u ps rs f → AreWithin t → IsOpen t ps outer f → outer ≡ []
     → IsRoot u (length t.nodes)
 closed_root t u ps rs outer f h w o none = record {
   there = omega (arith, ap length h.nodes, length-append t.nodes (record f { kids = record { start = length t.kids; end = length u.kids } } ∷ []));
@@ -158,7 +158,7 @@ closed_root t u ps rs outer f h w o none = record {
       (and_left (is_element 256 (so_far t ps f)) true (subst (λ l. are_open (so_far t ps f ∷ stacked t ps l []) ≡ true) none o.fits));
 }
 
-pub root_built : (t u : Content) (ps rs : List Slot) (outer : List Node) (f : Node) (root : Option ℕ) (i : Option Node) → IsClosed t u ps rs f → AreWithin t → IsOpen t ps outer f
+pub root_built : (t u : TableLists) (ps rs : List Slot) (outer : List Node) (f : Node) (root : Option ℕ) (i : Option Node) → IsClosed t u ps rs f → AreWithin t → IsOpen t ps outer f
     → i ≡ Some f → outer ≡ []
     → ◌≡◌ {A = Building} (record { root = Some (element_in 256 u (length t.nodes)); open_elements = [] })
     (ended (record { root = option_map (element_in 256 t) root; open_elements = all_open t ps i outer }))
@@ -176,14 +176,14 @@ root_built t u ps rs outer f root i h w o is none =
     (sym none) first)
 
 -- it was within another
-pub record Within (t u : Content) (ps qs : List Slot) (front : List Node) (f p q : Node) : Type 0 where
+pub record WasEnded (t u : TableLists) (ps qs : List Slot) (front : List Node) (f p q : Node) : Type 0 where
   pub opened : IsOpen u qs front q
   pub own : so_far u qs q ≡ with_kid (children.Element (so_far t ps f)) (so_far t ps p)
   pub around : stacked u qs front [] ≡ stacked t ps front []
 
-pub closed_within_other : (t u : Content) (ps rs qs : List Slot) (outer front : List Node) (f p : Node) → IsClosed t u ps rs f → AreWithin t → IsOpen t ps outer f
+pub closed_within_other : (t u : TableLists) (ps rs qs : List Slot) (outer front : List Node) (f p : Node) → IsClosed t u ps rs f → AreWithin t → IsOpen t ps outer f
     → outer ≡ front ++ (p ∷ []) → qs ≡ rs ++ (slots.Element (length t.nodes) ∷ [])
-    → Within t u ps qs front f p (record p { kids = record { start = p.kids.start; end = length qs } })
+    → WasEnded t u ps qs front f p (record p { kids = record { start = p.kids.start; end = length qs } })
 closed_within_other t u ps rs qs outer front f p h w o is qs_is =
     let g = closed_grown t u ps rs f h in
     let q : Node = record p { kids = record { start = p.kids.start; end = length qs } } in
@@ -241,7 +241,7 @@ closed_within_other t u ps rs qs outer front f p h w o is qs_is =
     least : (m n : ℕ) → m ≤ n → min m n ≡ m
     least m n le = omega arith
 
-pub within_built : (t u : Content) (ps rs qs : List Slot) (outer front : List Node) (f p q : Node) (root : Option ℕ) (i : Option Node) → Within t u ps qs front f p q
+pub within_built : (t u : TableLists) (ps rs qs : List Slot) (outer front : List Node) (f p q : Node) (root : Option ℕ) (i : Option Node) → WasEnded t u ps qs front f p q
     → IsClosed t u ps rs f → AreWithin t → IfSome root (IsRoot t) → i ≡ Some f → outer ≡ front ++ (p ∷ [])
     → ◌≡◌ {A = Building} (record { root = option_map (element_in 256 u) root; open_elements = so_far u qs q ∷ stacked u qs front [] })
     (ended (record { root = option_map (element_in 256 t) root; open_elements = all_open t ps i outer }))

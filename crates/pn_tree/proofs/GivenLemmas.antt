@@ -6,7 +6,7 @@ use Rattle.std.proofs.lemmas.List.{map-append, take-append-drop}
 use Rattle.std.proofs.lemmas.List.Elements.{All-append}
 use Rattle.std.proofs.lemmas.Str.{IsUtf8-append}
 use Rattle.pn_text.specs.Characters.{is_text}
-use Rattle.pn_tree.specs.Tables.{cut, Content, content, kid_in, element_in, IsTextIn, IsSlotIn, AreWithin, IsPut}
+use Rattle.pn_tree.specs.Tables.{cut, TableLists, content, kid_in, element_in, IsTextIn, IsSlotIn, AreWithin, IsPut}
 use Rattle.pn_tree.specs.Changes.{HasBytes, HasNoText, IsTextTaken, joined_span, IsTextAdded}
 use Rattle.pn_tree.specs.Building.{with_text, joined}
 use Rattle.pn_tree.specs.Frames.{so_far, stacked, IsOpen, IsSite}
@@ -47,7 +47,7 @@ no_text_last s ps o e none front r is =
     (omega (arith, length-append (take s.start ps) front, length-take s.start ps))
 
 -- a text that now stands last
-text_put : (t u : Content) (ps qs front a : List Slot) (outer : List Node) (f : Node) (text : List ℕ) (end : ℕ) (x : Span) → HasBytes t u → AreWithin t → IsOpen t ps outer f
+text_put : (t u : TableLists) (ps qs front a : List Slot) (outer : List Node) (f : Node) (text : List ℕ) (end : ℕ) (x : Span) → HasBytes t u → AreWithin t → IsOpen t ps outer f
     → is_text text ≡ true → (text ≡ [] → ⊥) → ps ≡ front ++ a → qs ≡ front ++ (slots.Text x ∷ []) → f.kids.start ≤ length front → IsTextIn u.bytes x → x.end ≡ length u.bytes
     → end ≡ length qs → map (kid_in (element_in 256 u) u.bytes) (cut (record { start = f.kids.start; end = end }) qs) ≡ joined text (map (kid_in (element_in 256 t) t.bytes) (cut f.kids ps))
     → Changed t u ps qs outer f (record f { kids = record { start = f.kids.start; end = end } }) (with_text text)
@@ -79,7 +79,7 @@ text_put t u ps qs front a outer f text end x h w o is some ps_is qs_is le there
       around = around;
     }
 
-text_apart : (t u : Content) (ps qs : List Slot) (outer : List Node) (f : Node) (text : List ℕ) (end : ℕ) (x : Span) → HasBytes t u → AreWithin t → IsOpen t ps outer f
+text_apart : (t u : TableLists) (ps qs : List Slot) (outer : List Node) (f : Node) (text : List ℕ) (end : ℕ) (x : Span) → HasBytes t u → AreWithin t → IsOpen t ps outer f
     → is_text text ≡ true → (text ≡ [] → ⊥) → IsPut t.bytes u.bytes text x → HasNoText f.kids.start ps → qs ≡ ps ++ (slots.Text x ∷ []) → end ≡ length qs
     → Changed t u ps qs outer f (record f { kids = record { start = f.kids.start; end = end } }) (with_text text)
 text_apart t u ps qs outer f text end x h w o is some put none qs_is e =
@@ -97,7 +97,7 @@ text_apart t u ps qs outer f text end x h w o is some put none qs_is e =
     ∙ sym (joined_apart text (element_in 256 t) t.bytes (cut f.kids ps) (no_text_last f.kids ps o.ordered o.whole none)) in
     text_put t u ps qs ps [] outer f text end x h w o is some (sym (append-nil ps)) qs_is (omega (arith, o.ordered, o.whole)) (put_there t.bytes u.bytes text x put) put.last e kids
 
-text_joined : (t u : Content) (ps qs front : List Slot) (outer : List Node) (f : Node) (text : List ℕ) (end : ℕ) (s y : Span) → HasBytes t u → AreWithin t → IsOpen t ps outer f
+text_joined : (t u : TableLists) (ps qs front : List Slot) (outer : List Node) (f : Node) (text : List ℕ) (end : ℕ) (s y : Span) → HasBytes t u → AreWithin t → IsOpen t ps outer f
     → is_text text ≡ true → (text ≡ [] → ⊥) → IsPut t.bytes u.bytes text y → ps ≡ front ++ (slots.Text s ∷ []) → f.kids.start ≤ length front
     → qs ≡ front ++ (slots.Text (joined_span (Some s) y) ∷ []) → end ≡ length qs
     → Changed t u ps qs outer f (record f { kids = record { start = f.kids.start; end = end } }) (with_text text)
@@ -139,7 +139,7 @@ text_joined t u ps qs front outer f text end s y h w o is some put ps_is le qs_i
     ∙ sym old in
     text_put t u ps qs front (slots.Text s ∷ []) outer f text end x h w o is some ps_is qs_is le valid put.last e kids
 
-pub text_changed : (t u : Content) (ps qs : List Slot) (outer : List Node) (f : Node) (text : List ℕ) (end : ℕ) → HasBytes t u → AreWithin t → IsOpen t ps outer f
+pub text_changed : (t u : TableLists) (ps qs : List Slot) (outer : List Node) (f : Node) (text : List ℕ) (end : ℕ) → HasBytes t u → AreWithin t → IsOpen t ps outer f
     → is_text text ≡ true → (text ≡ [] → ⊥) → IsTextAdded f.kids.start t u ps qs text → end ≡ length qs
     → Changed t u ps qs outer f (record f { kids = record { start = f.kids.start; end = end } }) (with_text text)
 text_changed t u ps qs outer f text end h w o is some added e = by added.placed.last added.placed.front added.placed.taken added.placed.placed
@@ -150,7 +150,7 @@ text_changed t u ps qs outer f text end h w o is some added e = by added.placed.
         text_apart t u ps qs outer f text end added.span h w o is some added.put taken.1 (qs_is ∙ ap (λ l. l ++ (slots.Text added.span ∷ [])) taken.0) e
     by (Some s) front taken qs_is = text_joined t u ps qs front outer f text end s added.span h w o is some added.put taken.0 taken.1 qs_is e
 
-pub text_at : (s : Site) (u : Content) (qs : List Slot) (f : Node) (text : List ℕ) (end : ℕ) → HasBytes (content s.tables) u → IsSite s → s.inner ≡ Some f
+pub text_at : (s : Site) (u : TableLists) (qs : List Slot) (f : Node) (text : List ℕ) (end : ℕ) → HasBytes (content s.tables) u → IsSite s → s.inner ≡ Some f
     → is_text text ≡ true → (text ≡ [] → ⊥) → IsTextAdded f.kids.start (content s.tables) u s.pending.items qs text → end ≡ length qs
     → Changed (content s.tables) u s.pending.items qs s.outer.items f (record f { kids = record { start = f.kids.start; end = end } }) (with_text text)
 text_at s u qs f text end h k is t some added e =

@@ -6,11 +6,11 @@ use Rattle.std.specs.Str.{IsUtf8}
 use Rattle.std.specs.Vec.{vec_len, vec_capacity}
 use Rattle.pn_text.specs.Characters.{is_name, is_text}
 use Rattle.std.proofs.lemmas.List.{length-map, map-append}
-use Rattle.pn_tree.specs.Tables.{cut, Content, attr_in, kid_in, element_in, IsSpan, IsTextIn, IsPairIn, IsSlotIn, IsHeadIn, IsNodeIn, AreWithin, HaveGrown, IsPut}
+use Rattle.pn_tree.specs.Tables.{cut, TableLists, attr_in, kid_in, element_in, IsSpan, IsTextIn, IsPairIn, IsSlotIn, IsHeadIn, IsNodeIn, AreWithin, HaveGrown, IsPut}
 use Rattle.pn_tree.specs.Changes.{HasBytes, IsPairPut, HasAttr}
 use Rattle.pn_tree.specs.Building.{Building, innermost, at_innermost, with_attr}
 use Rattle.pn_tree.specs.Elements.{attr_value}
-use Rattle.pn_tree.specs.Frames.{so_far, stacked, all_open, are_open, AreSideBySide, IsOpen, HasRoom, IsRoot, IsSite, built}
+use Rattle.pn_tree.specs.Frames.{so_far, stacked, all_open, are_open, AreSideBySide, IsOpen, HasSpare, IsRoot, IsSite, built}
 use Rattle.pn_tree.specs.declared.element.Element.{Element}
 use Rattle.pn_tree.specs.declared.tables.Span.{Span}
 use Rattle.pn_tree.specs.declared.tables.Pair.{Pair}
@@ -37,7 +37,7 @@ put_there old new text s p = record {
   utf8 = subst IsUtf8 (sym (put_says old new text s p)) p.utf8;
 }
 
-abbrev pub bytes_grown : (t u : Content) → HasBytes t u → HaveGrown t u
+abbrev pub bytes_grown : (t u : TableLists) → HasBytes t u → HaveGrown t u
 bytes_grown t u h = record {
   bytes = h.bytes;
   attrs = ([], h.attrs ∙ sym (append-nil t.attrs));
@@ -45,7 +45,7 @@ bytes_grown t u h = record {
   nodes = ([], h.nodes ∙ sym (append-nil t.nodes));
 }
 
-pub bytes_within : (t u : Content) → HasBytes t u → AreWithin t → AreWithin u
+pub bytes_within : (t u : TableLists) → HasBytes t u → AreWithin t → AreWithin u
 bytes_within t u h w =
     within_more t u (bytes_grown t u h) w (all_none (IsPairIn u.bytes)) (all_none (IsSlotIn u.bytes (length u.nodes))) (all_none (IsNodeIn u))
 
@@ -55,7 +55,7 @@ none_open new none w r = record {
   tables = w;
   root = r;
   opened = subst (λ i. IfSome i (IsOpen (content new.tables) new.pending.items new.outer.items)) (sym none) tt;
-  room = subst (λ i. IfSome i (λ _. HasRoom (suc (vec_len new.outer)) (suc (vec_len new.outer)) new.tables new.pending)) (sym none) tt;
+  room = subst (λ i. IfSome i (λ _. HasSpare (suc (vec_len new.outer)) (suc (vec_len new.outer)) new.tables new.pending)) (sym none) tt;
 }
 
 -- a call failed
@@ -90,7 +90,7 @@ side_last low [] f high h = record { around = sym h.0; ordered = omega (arith, h
 side_last low (g ∷ fs) f high h =
     let r = side_last g.kids.end fs f high h.2 in record { around = (h.0, h.1, r.around); ordered = r.ordered; ends = r.ends }
 
-pub stacked-push : (t : Content) (ps : List Slot) (fs : List Node) (f : Node) (es : List Element) → stacked t ps (fs ++ (f ∷ [])) es ≡ so_far t ps f ∷ stacked t ps fs es
+pub stacked-push : (t : TableLists) (ps : List Slot) (fs : List Node) (f : Node) (es : List Element) → stacked t ps (fs ++ (f ∷ [])) es ≡ so_far t ps f ∷ stacked t ps fs es
 stacked-push t ps [] f es = refl
 stacked-push t ps (g ∷ fs) f es = stacked-push t ps fs f (so_far t ps g ∷ es)
 
@@ -98,13 +98,13 @@ cut_front : (s : Span) (front a b ps qs : List Slot) → IsSpan (length front) s
 cut_front s front a b ps qs p is js = ap (cut s) js ∙ cut_more s front b p ∙ sym (cut_more s front a p) ∙ ap (cut s) (sym is)
 
 -- an open element whose kids stay
-pub so_far_grown : (t u : Content) → HaveGrown t u → AreWithin t → (front a b ps qs : List Slot) → ps ≡ front ++ a → qs ≡ front ++ b
+pub so_far_grown : (t u : TableLists) → HaveGrown t u → AreWithin t → (front a b ps qs : List Slot) → ps ≡ front ++ a → qs ≡ front ++ b
     → All (IsSlotIn t.bytes (length t.nodes)) ps → (f : Node) → IsHeadIn t f → IsSpan (length front) f.kids → so_far u qs f ≡ so_far t ps f
 so_far_grown t u g w front a b ps qs is js places f head span =
     made_grown (element_in 256 u) (element_in 256 t) t u g (λ i lt. element_grown 256 t u g w i lt) w.attrs f head ps qs (cut_front f.kids front a b ps qs span is js)
     (all_cut (IsSlotIn t.bytes (length t.nodes)) f.kids ps places)
 
-pub stacked_grown : (t u : Content) → HaveGrown t u → AreWithin t → (front a b ps qs : List Slot) → ps ≡ front ++ a → qs ≡ front ++ b
+pub stacked_grown : (t u : TableLists) → HaveGrown t u → AreWithin t → (front a b ps qs : List Slot) → ps ≡ front ++ a → qs ≡ front ++ b
     → All (IsSlotIn t.bytes (length t.nodes)) ps → (low : ℕ) (fs : List Node) (high : ℕ) → AreSideBySide low fs high → high ≤ length front → All (IsHeadIn t) fs → (es : List Element)
     → stacked u qs fs es ≡ stacked t ps fs es
 stacked_grown t u g w front a b ps qs is js places low [] high side le heads es = refl
@@ -115,12 +115,12 @@ stacked_grown t u g w front a b ps qs is js places low (f ∷ fs) high side le h
 
 -- the innermost element was changed
 
-pub record Changed (t u : Content) (ps qs : List Slot) (outer : List Node) (f g : Node) (change : Element → Element) : Type 0 where
+pub record Changed (t u : TableLists) (ps qs : List Slot) (outer : List Node) (f g : Node) (change : Element → Element) : Type 0 where
   pub opened : IsOpen u qs outer g
   pub own : so_far u qs g ≡ change (so_far t ps f)
   pub around : stacked u qs outer [] ≡ stacked t ps outer []
 
-pub changed_built : (t u : Content) (ps qs : List Slot) (outer : List Node) (f g : Node) (change : Element → Element) → Changed t u ps qs outer f g change
+pub changed_built : (t u : TableLists) (ps qs : List Slot) (outer : List Node) (f g : Node) (change : Element → Element) → Changed t u ps qs outer f g change
     → HaveGrown t u → AreWithin t → (root : Option ℕ) → IfSome root (IsRoot t) → (i : Option Node) → i ≡ Some f
     → ◌≡◌ {A = Building} (record { root = option_map (element_in 256 u) root; open_elements = so_far u qs g ∷ stacked u qs outer [] })
     (at_innermost change (record { root = option_map (element_in 256 t) root; open_elements = all_open t ps i outer }))
@@ -131,7 +131,7 @@ changed_built t u ps qs outer f g change c h w root r i is =
     subst (λ j. ◌≡◌ {A = Building} (record { root = option_map (element_in 256 u) root; open_elements = so_far u qs g ∷ stacked u qs outer [] }) (at_innermost change (record { root = option_map (element_in 256 t) root; open_elements = all_open t ps j outer }))) (sym is)
     (λ k. record { root = same k; open_elements = own k ∷ around k })
 
-pub fits_changed : (t u : Content) (ps qs : List Slot) (outer : List Node) (f g : Node) (change : Element → Element) → so_far u qs g ≡ change (so_far t ps f)
+pub fits_changed : (t u : TableLists) (ps qs : List Slot) (outer : List Node) (f g : Node) (change : Element → Element) → so_far u qs g ≡ change (so_far t ps f)
     → stacked u qs outer [] ≡ stacked t ps outer [] → ((k : ℕ) → Parts k (so_far t ps f) → Parts k (change (so_far t ps f)))
     → are_open (so_far t ps f ∷ stacked t ps outer []) ≡ true → are_open (so_far u qs g ∷ stacked u qs outer []) ≡ true
 fits_changed t u ps qs outer f g change own around keeps h =
@@ -153,7 +153,7 @@ pair_there old new name value a p = record {
   value = put_there p.middle new value a.value p.is;
 }
 
-abbrev pub attr_grown : (t u : Content) (name value : List ℕ) → HasAttr t u name value → HaveGrown t u
+abbrev pub attr_grown : (t u : TableLists) (name value : List ℕ) → HasAttr t u name value → HaveGrown t u
 attr_grown t u name value h = record {
   bytes = (name ++ value, h.bytes.is.bytes ∙ ap (λ l. l ++ value) h.bytes.called.bytes ∙ append_assoc t.bytes name value);
   attrs = (h.pair ∷ [], h.attrs);
@@ -161,18 +161,18 @@ attr_grown t u name value h = record {
   nodes = ([], h.nodes ∙ sym (append-nil t.nodes));
 }
 
-pub attr_within : (t u : Content) (name value : List ℕ) → HasAttr t u name value → AreWithin t → AreWithin u
+pub attr_within : (t u : TableLists) (name value : List ℕ) → HasAttr t u name value → AreWithin t → AreWithin u
 attr_within t u name value h w =
     within_more t u (attr_grown t u name value h) w (all_one (IsPairIn u.bytes) h.pair (pair_there t.bytes u.bytes name value h.pair h.bytes))
     (all_none (IsSlotIn u.bytes (length u.nodes))) (all_none (IsNodeIn u))
 
-no_kids : (t : Content) (ps : List Slot) (f : Node) → f.kids.start ≤ f.kids.end → f.kids.end ≡ length ps → (so_far t ps f).kids ≡ [] → f.kids.start ≡ f.kids.end
+no_kids : (t : TableLists) (ps : List Slot) (f : Node) → f.kids.start ≤ f.kids.end → f.kids.end ≡ length ps → (so_far t ps f).kids ≡ [] → f.kids.start ≡ f.kids.end
 no_kids t ps f o e none =
     let len : length (cut f.kids ps) ≡ 0 = sym (length-map (cut f.kids ps) (kid_in (element_in 256 t) t.bytes)) ∙ ap length none in
     let rest : length (drop f.kids.start ps) ≡ 0 = sym (ap length (cut_rest f.kids ps e)) ∙ len in
     omega (arith, o, e, rest, length-drop f.kids.start ps)
 
-pub attr_changed : (t u : Content) (ps : List Slot) (outer : List Node) (f : Node) (name value : List ℕ) (end : ℕ) → HasAttr t u name value → AreWithin t → IsOpen t ps outer f
+pub attr_changed : (t u : TableLists) (ps : List Slot) (outer : List Node) (f : Node) (name value : List ℕ) (end : ℕ) → HasAttr t u name value → AreWithin t → IsOpen t ps outer f
     → end ≡ length t.attrs + 1 → is_name name ≡ true → is_text value ≡ true → (so_far t ps f).kids ≡ [] → attr_value name (so_far t ps f).attrs ≡ None
     → Changed t u ps ps outer f (record f { attrs = record { start = f.attrs.start; end = end } }) (with_attr name value)
 attr_changed t u ps outer f name value end h w o e n v none new =
@@ -214,11 +214,11 @@ attr_changed t u ps outer f name value end h w o e n v none new =
       around = around;
     }
 
-pub innermost_of : (t : Content) (ps : List Slot) (outer : List Node) (root : Option Element) (i : Option Node) (f : Node) (P : Element → Type 0) → i ≡ Some f
+pub innermost_of : (t : TableLists) (ps : List Slot) (outer : List Node) (root : Option Element) (i : Option Node) (f : Node) (P : Element → Type 0) → i ≡ Some f
     → IfSome (innermost (record { root = root; open_elements = all_open t ps i outer })) P → P (so_far t ps f)
 innermost_of t ps outer root i f P is h = subst (λ j. IfSome (innermost (record { root = root; open_elements = all_open t ps j outer })) P) is h
 
-pub attr_at : (s : Site) (u : Content) (f : Node) (name value : List ℕ) (end : ℕ) → HasAttr (content s.tables) u name value → IsSite s → s.inner ≡ Some f
+pub attr_at : (s : Site) (u : TableLists) (f : Node) (name value : List ℕ) (end : ℕ) → HasAttr (content s.tables) u name value → IsSite s → s.inner ≡ Some f
     → end ≡ length (content s.tables).attrs + 1 → is_name name ≡ true → is_text value ≡ true → IfSome (innermost (built s)) (λ e. e.kids ≡ [])
     → IfSome (innermost (built s)) (λ e. attr_value name e.attrs ≡ None)
     → Changed (content s.tables) u s.pending.items s.pending.items s.outer.items f (record f { attrs = record { start = f.attrs.start; end = end } }) (with_attr name value)
@@ -230,7 +230,7 @@ attr_at s u f name value end h k is e n v none new =
     (innermost_of t ps s.outer.items root s.inner f (λ x. x.kids ≡ []) is none)
     (innermost_of t ps s.outer.items root s.inner f (λ x. attr_value name x.attrs ≡ None) is new)
 
-pub room_same : {Z : Type 0} (many more : ℕ) (t u : Tables) (ps : Vec Slot Z) → u.kids ≡ t.kids → u.nodes ≡ t.nodes → HasRoom many more t ps → HasRoom many more u ps
+pub room_same : {Z : Type 0} (many more : ℕ) (t u : Tables) (ps : Vec Slot Z) → u.kids ≡ t.kids → u.nodes ≡ t.nodes → HasSpare many more t ps → HasSpare many more u ps
 room_same many more t u ps k n r = record {
   nodes = subst (λ v. vec_len v + many ≤ vec_capacity v) (sym n) r.nodes;
   nodes_fit = subst (λ v. vec_len v + many < 2 ^ 32) (sym n) r.nodes_fit;
@@ -239,7 +239,7 @@ room_same many more t u ps k n r = record {
   places = r.places;
 }
 
-pub changed_at : (s : Site) (u : Content) (qs : List Slot) (f g : Node) (change : Element → Element) → Changed (content s.tables) u s.pending.items qs s.outer.items f g change
+pub changed_at : (s : Site) (u : TableLists) (qs : List Slot) (f g : Node) (change : Element → Element) → Changed (content s.tables) u s.pending.items qs s.outer.items f g change
     → HaveGrown (content s.tables) u → IsSite s → s.inner ≡ Some f
     → ◌≡◌ {A = Building} (record { root = option_map (element_in 256 u) s.root; open_elements = so_far u qs g ∷ stacked u qs s.outer.items [] }) (at_innermost change (built s))
 changed_at s u qs f g change c h k is = changed_built (content s.tables) u s.pending.items qs s.outer.items f g change c h k.tables s.root k.root s.inner is

@@ -6,7 +6,7 @@ use Rattle.std.specs.Str.{IsUtf8}
 use Rattle.std.proofs.lemmas.List.{get_or_append_left}
 use Rattle.std.proofs.lemmas.List.Elements.{All-append}
 use Rattle.pn_facts.proofs.Truths.{and_left, and_right}
-use Rattle.pn_tree.specs.Tables.{cut, Content, attr_in, kid_in, made_of, no_node, element_in, IsSpan, IsTextIn, IsPairIn, IsSlotIn, IsHeadIn, IsNodeIn, AreWithin, IsFront, HaveGrown}
+use Rattle.pn_tree.specs.Tables.{cut, TableLists, attr_in, kid_in, made_of, no_node, element_in, IsSpan, IsTextIn, IsPairIn, IsSlotIn, IsHeadIn, IsNodeIn, AreWithin, HasGrown, HaveGrown}
 use Rattle.pn_tree.specs.Elements.{is_kid, is_element, IsTree}
 use Rattle.pn_tree.specs.Frames.{IsRoot}
 use Rattle.pn_tree.specs.declared.element.Attr.{Attr}
@@ -40,39 +40,39 @@ pub slot_more : (bytes more : List ℕ) (m n : ℕ) → m ≤ n → (k : Slot) �
 slot_more bytes more m n le (slots.Element i) p = omega arith
 slot_more bytes more m n le (slots.Text s) p = text_more bytes more s p
 
-longer : {X : Type 0} (xs ys : List X) → IsFront xs ys → length xs ≤ length ys
+longer : {X : Type 0} (xs ys : List X) → HasGrown xs ys → length xs ≤ length ys
 longer xs ys f = omega (arith, ap length f.1, length-append xs f.0)
 
-pub text_grown : (old new : List ℕ) → IsFront old new → (s : Span) → IsTextIn old s → IsTextIn new s
+pub text_grown : (old new : List ℕ) → HasGrown old new → (s : Span) → IsTextIn old s → IsTextIn new s
 text_grown old new f s p = subst (λ b. IsTextIn b s) (sym f.1) (text_more old f.0 s p)
 
-pub head_grown : (t u : Content) → HaveGrown t u → (n : Node) → IsHeadIn t n → IsHeadIn u n
+pub head_grown : (t u : TableLists) → HaveGrown t u → (n : Node) → IsHeadIn t n → IsHeadIn u n
 head_grown t u g n p = record {
   name = text_grown t.bytes u.bytes g.bytes n.name p.name;
   attrs = span_more (length t.attrs) (length u.attrs) n.attrs (longer t.attrs u.attrs g.attrs) p.attrs;
 }
 
-node_grown : (t u : Content) → HaveGrown t u → (n : Node) → IsNodeIn t n → IsNodeIn u n
+node_grown : (t u : TableLists) → HaveGrown t u → (n : Node) → IsNodeIn t n → IsNodeIn u n
 node_grown t u g n p = record {
   head = head_grown t u g n p.head;
   kids = span_more (length t.kids) (length u.kids) n.kids (longer t.kids u.kids g.kids) p.kids;
 }
 
-pub slot_grown : (t u : Content) → HaveGrown t u → (k : Slot) → IsSlotIn t.bytes (length t.nodes) k → IsSlotIn u.bytes (length u.nodes) k
+pub slot_grown : (t u : TableLists) → HaveGrown t u → (k : Slot) → IsSlotIn t.bytes (length t.nodes) k → IsSlotIn u.bytes (length u.nodes) k
 slot_grown t u g k p =
     subst (λ b. IsSlotIn b (length u.nodes) k) (sym g.bytes.1) (slot_more t.bytes g.bytes.0 (length t.nodes) (length u.nodes) (longer t.nodes u.nodes g.nodes) k p)
 
-pub slots_grown : (t u : Content) → HaveGrown t u → (ks : List Slot) → All (IsSlotIn t.bytes (length t.nodes)) ks → All (IsSlotIn u.bytes (length u.nodes)) ks
+pub slots_grown : (t u : TableLists) → HaveGrown t u → (ks : List Slot) → All (IsSlotIn t.bytes (length t.nodes)) ks → All (IsSlotIn u.bytes (length u.nodes)) ks
 slots_grown t u g ks h = all_each (IsSlotIn t.bytes (length t.nodes)) (IsSlotIn u.bytes (length u.nodes)) (slot_grown t u g) ks h
 
-pub heads_grown : (t u : Content) → HaveGrown t u → (fs : List Node) → All (IsHeadIn t) fs → All (IsHeadIn u) fs
+pub heads_grown : (t u : TableLists) → HaveGrown t u → (fs : List Node) → All (IsHeadIn t) fs → All (IsHeadIn u) fs
 heads_grown t u g fs h = all_each (IsHeadIn t) (IsHeadIn u) (head_grown t u g) fs h
 
-all_put : {X : Type 0} (P Q : X → Type 0) → ((x : X) → P x → Q x) → (xs ys : List X) → (f : IsFront xs ys) → All P xs → All Q f.0 → All Q ys
+all_put : {X : Type 0} (P Q : X → Type 0) → ((x : X) → P x → Q x) → (xs ys : List X) → (f : HasGrown xs ys) → All P xs → All Q f.0 → All Q ys
 all_put P Q each xs ys f h k = subst (All Q) (sym f.1) (All-append Q xs f.0 (all_each P Q each xs h) k)
 
 -- tables that grew by what points into them
-pub within_more : (t u : Content) → (g : HaveGrown t u) → AreWithin t → All (IsPairIn u.bytes) g.attrs.0 → All (IsSlotIn u.bytes (length u.nodes)) g.kids.0
+pub within_more : (t u : TableLists) → (g : HaveGrown t u) → AreWithin t → All (IsPairIn u.bytes) g.attrs.0 → All (IsSlotIn u.bytes (length u.nodes)) g.kids.0
     → All (IsNodeIn u) g.nodes.0 → AreWithin u
 within_more t u g w a k n = record {
   attrs = all_put (IsPairIn t.bytes) (IsPairIn u.bytes) (λ (x : Pair) p. subst (λ b. IsPairIn b x) (sym g.bytes.1) (pair_more t.bytes g.bytes.0 x p)) t.attrs u.attrs g.attrs w.attrs a;
@@ -107,27 +107,27 @@ kids_same e d bytes more nodes f (k ∷ ks) h =
     λ i. first i ∷ kids_same e d bytes more nodes f ks (all_others (IsSlotIn bytes nodes) k ks h) i
 
 -- the kids of a node whose places are the same
-pub kids_grown : (e d : ℕ → Element) (t u : Content) → HaveGrown t u → ((i : ℕ) → i < length t.nodes → e i ≡ d i) → (ks ls : List Slot) → ls ≡ ks
+pub kids_grown : (e d : ℕ → Element) (t u : TableLists) → HaveGrown t u → ((i : ℕ) → i < length t.nodes → e i ≡ d i) → (ks ls : List Slot) → ls ≡ ks
     → All (IsSlotIn t.bytes (length t.nodes)) ks → map (kid_in e u.bytes) ls ≡ map (kid_in d t.bytes) ks
 kids_grown e d t u g f ks ls same h =
     ap (map (kid_in e u.bytes)) same ∙ ap (λ b. map (kid_in e b) ks) g.bytes.1 ∙ kids_same e d t.bytes g.bytes.0 (length t.nodes) f ks h
 
-pub name_grown : (t u : Content) → HaveGrown t u → (n : Node) → IsHeadIn t n → cut n.name u.bytes ≡ cut n.name t.bytes
+pub name_grown : (t u : TableLists) → HaveGrown t u → (n : Node) → IsHeadIn t n → cut n.name u.bytes ≡ cut n.name t.bytes
 name_grown t u g n p = ap (cut n.name) g.bytes.1 ∙ cut_more n.name t.bytes g.bytes.0 p.name.span
 
-pub attrs_grown : (t u : Content) → HaveGrown t u → All (IsPairIn t.bytes) t.attrs → (n : Node) → IsHeadIn t n
+pub attrs_grown : (t u : TableLists) → HaveGrown t u → All (IsPairIn t.bytes) t.attrs → (n : Node) → IsHeadIn t n
     → map (attr_in u.bytes) (cut n.attrs u.attrs) ≡ map (attr_in t.bytes) (cut n.attrs t.attrs)
 attrs_grown t u g w n p =
     ap (λ l. map (attr_in u.bytes) (cut n.attrs l)) g.attrs.1 ∙ ap (map (attr_in u.bytes)) (cut_more n.attrs t.attrs g.attrs.0 p.attrs)
     ∙ ap (λ b. map (attr_in b) (cut n.attrs t.attrs)) g.bytes.1 ∙ attrs_same t.bytes g.bytes.0 (cut n.attrs t.attrs) (all_cut (IsPairIn t.bytes) n.attrs t.attrs w)
 
-pub made_grown : (e d : ℕ → Element) (t u : Content) → HaveGrown t u → ((i : ℕ) → i < length t.nodes → e i ≡ d i) → All (IsPairIn t.bytes) t.attrs
+pub made_grown : (e d : ℕ → Element) (t u : TableLists) → HaveGrown t u → ((i : ℕ) → i < length t.nodes → e i ≡ d i) → All (IsPairIn t.bytes) t.attrs
     → (n : Node) → IsHeadIn t n → (ps qs : List Slot) → cut n.kids qs ≡ cut n.kids ps → All (IsSlotIn t.bytes (length t.nodes)) (cut n.kids ps)
     → made_of e u qs n ≡ made_of d t ps n
 made_grown e d t u g f w n p ps qs same h =
     same_element n.at (name_grown t u g n p) (attrs_grown t u g w n p) (kids_grown e d t u g f (cut n.kids ps) (cut n.kids qs) same h)
 
-pub element_grown : (levels : ℕ) (t u : Content) → HaveGrown t u → AreWithin t → (i : ℕ) → i < length t.nodes → element_in levels u i ≡ element_in levels t i
+pub element_grown : (levels : ℕ) (t u : TableLists) → HaveGrown t u → AreWithin t → (i : ℕ) → i < length t.nodes → element_in levels u i ≡ element_in levels t i
 unfolding element_in
 element_grown zero t u g w i lt = refl
 element_grown (suc levels) t u g w i lt =
@@ -139,7 +139,7 @@ element_grown (suc levels) t u g w i lt =
     (ap (cut n.kids) g.kids.1 ∙ cut_more n.kids t.kids g.kids.0 there.kids) (all_cut (IsSlotIn t.bytes (length t.nodes)) n.kids t.kids w.kids)
 
 -- the element of a node
-pub element_is : (levels : ℕ) (t : Content) (i : ℕ) → element_in (suc levels) t i ≡ made_of (element_in levels t) t t.kids (get_or t.nodes i no_node)
+pub element_is : (levels : ℕ) (t : TableLists) (i : ℕ) → element_in (suc levels) t i ≡ made_of (element_in levels t) t t.kids (get_or t.nodes i no_node)
 unfolding element_in
 element_is levels t i = refl
 
@@ -157,7 +157,7 @@ kids_levels_same p e d bytes f (k ∷ ks) h =
     let first = kid_levels_same p e d bytes f k (and_left (is_kid p (kid_in e bytes k)) (list_all (is_kid p) (map (kid_in e bytes) ks)) h) in
     λ i. first i ∷ kids_levels_same p e d bytes f ks (and_right (is_kid p (kid_in e bytes k)) (list_all (is_kid p) (map (kid_in e bytes) ks)) h) i
 
-pub levels_same : (m n k : ℕ) (t : Content) (i : ℕ) → m ≤ n → m ≤ k → is_element m (element_in n t i) ≡ true → element_in k t i ≡ element_in n t i
+pub levels_same : (m n k : ℕ) (t : TableLists) (i : ℕ) → m ≤ n → m ≤ k → is_element m (element_in n t i) ≡ true → element_in k t i ≡ element_in n t i
 levels_same zero n k t i le ge h = absurd (not_element-zero (element_in n t i) h)
 levels_same (suc m) zero k t i le ge h = absurd (omega arith)
 levels_same (suc m) (suc n) zero t i le ge h = absurd (omega arith)
@@ -170,13 +170,13 @@ levels_same (suc m) (suc n) (suc k) t i le ge h =
     ∙ sym (element_is n t i)
 
 -- the root stays one
-pub root_grown : (t u : Content) → HaveGrown t u → AreWithin t → (r : Option ℕ) → IfSome r (IsRoot t) → IfSome r (IsRoot u)
+pub root_grown : (t u : TableLists) → HaveGrown t u → AreWithin t → (r : Option ℕ) → IfSome r (IsRoot t) → IfSome r (IsRoot u)
 root_grown t u g w None h = h
 root_grown t u g w (Some r) h = record {
   there = omega (arith, h.there, longer t.nodes u.nodes g.nodes);
   is_tree = subst IsTree (sym (element_grown 256 t u g w r h.there)) h.is_tree;
 }
 
-pub root_same : (t u : Content) → HaveGrown t u → AreWithin t → (r : Option ℕ) → IfSome r (IsRoot t) → option_map (element_in 256 u) r ≡ option_map (element_in 256 t) r
+pub root_same : (t u : TableLists) → HaveGrown t u → AreWithin t → (r : Option ℕ) → IfSome r (IsRoot t) → option_map (element_in 256 u) r ≡ option_map (element_in 256 t) r
 root_same t u g w None h = refl
 root_same t u g w (Some r) h = ap Some (element_grown 256 t u g w r h.there)

@@ -4,7 +4,7 @@ use Rattle.std.specs.List.{slice_get}
 use Rattle.std.specs.Option.{option_map}
 use Rattle.std.proofs.lemmas.List.{length-map}
 use Rattle.std.proofs.lemmas.Option.{slice_get-map}
-use Rattle.pn_tree.specs.Tables.{cut, Content, attr_in, kid_in, made_of, element_in, no_node, IsNodeIn}
+use Rattle.pn_tree.specs.Tables.{cut, TableLists, attr_in, kid_in, made_of, element_in, no_node, IsNodeIn}
 use Rattle.pn_tree.specs.Elements.{attr_value, is_kid, is_element}
 use Rattle.pn_tree.specs.Frames.{IsRoot}
 use Rattle.std.specs.Str.{bytes_eq}
@@ -19,10 +19,10 @@ use Rattle.pn_tree.proofs.ElementLemmas.{is_kid-element}
 use Rattle.pn_tree.proofs.TreeLemmas.{parts_of, is_element_more}
 use Rattle.pn_tree.proofs.TableLemmas.{element_is, levels_same}
 
-pub made_at : (t : Content) (i : ℕ) (n : Node) → n ≡ get_or t.nodes i no_node → element_in 256 t i ≡ made_of (element_in 255 t) t t.kids n
+pub made_at : (t : TableLists) (i : ℕ) (n : Node) → n ≡ get_or t.nodes i no_node → element_in 256 t i ≡ made_of (element_in 255 t) t t.kids n
 made_at t i n is = element_is 255 t i ∙ ap (made_of (element_in 255 t) t t.kids) (sym is)
 
-module _ (t : Content) (e : Element) (n : Node) (made : e ≡ made_of (element_in 255 t) t t.kids n) (there : IsNodeIn t n) where
+module _ (t : TableLists) (e : Element) (n : Node) (made : e ≡ made_of (element_in 255 t) t t.kids n) (there : IsNodeIn t n) where
   pub attrs_counted : length e.attrs ≡ n.attrs.end - n.attrs.start
   attrs_counted = ap (λ (x : Element). length x.attrs) made ∙ length-map (cut n.attrs t.attrs) (attr_in t.bytes) ∙ cut_length n.attrs t.attrs there.head.attrs
 
@@ -41,17 +41,17 @@ module _ (t : Content) (e : Element) (n : Node) (made : e ≡ made_of (element_i
 
 -- an element among the kids of a tree's element
 
-kid_levels : (t : Content) (i j k : ℕ) → is_element 256 (element_in 256 t i) ≡ true → slice_get (element_in 256 t i).kids k ≡ Some (children.Element (element_in 255 t j))
+kid_levels : (t : TableLists) (i j k : ℕ) → is_element 256 (element_in 256 t i) ≡ true → slice_get (element_in 256 t i).kids k ≡ Some (children.Element (element_in 255 t j))
     → is_element 255 (element_in 255 t j) ≡ true
 kid_levels t i j k h is =
     sym (is_kid-element (is_element 255) (element_in 255 t j))
     ∙ list_all_at (is_kid (is_element 255)) (element_in 256 t i).kids k (children.Element (element_in 255 t j)) is (parts_of 255 (element_in 256 t i) h).kids
 
-pub kid_same : (t : Content) (i j k : ℕ) → is_element 256 (element_in 256 t i) ≡ true → slice_get (element_in 256 t i).kids k ≡ Some (children.Element (element_in 255 t j))
+pub kid_same : (t : TableLists) (i j k : ℕ) → is_element 256 (element_in 256 t i) ≡ true → slice_get (element_in 256 t i).kids k ≡ Some (children.Element (element_in 255 t j))
     → element_in 256 t j ≡ element_in 255 t j
 kid_same t i j k h is = levels_same 255 255 256 t j (omega arith) (omega arith) (kid_levels t i j k h is)
 
-pub kid_root : (t : Content) (i j k : ℕ) → is_element 256 (element_in 256 t i) ≡ true → slice_get (element_in 256 t i).kids k ≡ Some (children.Element (element_in 255 t j))
+pub kid_root : (t : TableLists) (i j k : ℕ) → is_element 256 (element_in 256 t i) ≡ true → slice_get (element_in 256 t i).kids k ≡ Some (children.Element (element_in 255 t j))
     → j < length t.nodes → IsRoot t j
 kid_root t i j k h is lt = record {
   there = lt;

@@ -1,6 +1,6 @@
 -- What the parts of a builder's calls do to its tables.
 use Rattle.std.specs.Prelude.{◌≡◌, ℕ, ◌≤◌, List, [], ◌∷◌, ◌++◌, length, take, drop, Option, Some, None, MatchOption}
-use Rattle.pn_tree.specs.Tables.{Content, IsFront, IsPut}
+use Rattle.pn_tree.specs.Tables.{TableLists, HasGrown, IsPut}
 use Rattle.pn_tree.specs.declared.tables.Span.{Span}
 use Rattle.pn_tree.specs.declared.tables.Pair.{Pair}
 use Rattle.pn_tree.specs.declared.tables.Slot.{Slot}
@@ -8,15 +8,15 @@ use Rattle.pn_tree.specs.declared.tables.Slot.TheVariants as slots
 use Rattle.pn_tree.specs.declared.tables.Node.{Node}
 
 -- an element that was given nothing yet, where there are so many attributes and kids
-pub record IsBegun (old new name : List ℕ) (at attrs kids : ℕ) (f : Node) : Type 0 where
+pub record IsNewNode (old new name : List ℕ) (at attrs kids : ℕ) (f : Node) : Type 0 where
   pub called : IsPut old new name f.name
   pub offset : f.at ≡ at
   pub own_attrs : f.attrs ≡ record { start = attrs; end = attrs }
   pub own_kids : f.kids ≡ record { start = kids; end = kids }
 
 -- nothing but bytes was put into the tables
-pub record HasBytes (old new : Content) : Type 0 where
-  pub bytes : IsFront old.bytes new.bytes
+pub record HasBytes (old new : TableLists) : Type 0 where
+  pub bytes : HasGrown old.bytes new.bytes
   pub attrs : new.attrs ≡ old.attrs
   pub kids : new.kids ≡ old.kids
   pub nodes : new.nodes ≡ old.nodes
@@ -33,7 +33,7 @@ pub record IsPairPut (old new name value : List ℕ) (a : Pair) : Type 0 where
   pub is : IsPut middle new value a.value
 
 -- an attribute was put behind the others
-pub record HasAttr (old new : Content) (name value : List ℕ) : Type 0 where
+pub record HasAttr (old new : TableLists) (name value : List ℕ) : Type 0 where
   pub pair : Pair
   pub bytes : IsPairPut old.bytes new.bytes name value pair
   pub attrs : new.attrs ≡ old.attrs ++ (pair ∷ [])
@@ -61,13 +61,13 @@ pub record IsTextPlaced (start : ℕ) (text : Span) (old new : List Slot) : Type
   pub placed : new ≡ front ++ (slots.Text (joined_span last text) ∷ [])
 
 -- a text that is not empty was put into the tables and behind the kids from a place on
-pub record IsTextAdded (start : ℕ) (old new : Content) (old_kids new_kids : List Slot) (text : List ℕ) : Type 0 where
+pub record IsTextAdded (start : ℕ) (old new : TableLists) (old_kids new_kids : List Slot) (text : List ℕ) : Type 0 where
   pub span : Span
   pub put : IsPut old.bytes new.bytes text span
   pub placed : IsTextPlaced start span old_kids new_kids
 
 -- the kids from the element's first one on were moved into the tables, and its node behind the others
-pub record IsClosed (old new : Content) (old_kids new_kids : List Slot) (f : Node) : Type 0 where
+pub record IsClosed (old new : TableLists) (old_kids new_kids : List Slot) (f : Node) : Type 0 where
   pub bytes : new.bytes ≡ old.bytes
   pub attrs : new.attrs ≡ old.attrs
   pub kids : new.kids ≡ old.kids ++ drop f.kids.start old_kids

@@ -5,7 +5,7 @@ use Rattle.std.specs.Option.{option_map}
 use Rattle.std.specs.declared.vec.Vec.{Vec}
 use Rattle.pn_tree.specs.Elements.{is_element, IsTree}
 use Rattle.pn_tree.specs.Building.{Building}
-use Rattle.pn_tree.specs.Tables.{Content, content, made_of, element_in, IsSlotIn, IsHeadIn, AreWithin}
+use Rattle.pn_tree.specs.Tables.{TableLists, content, made_of, element_in, IsSlotIn, IsHeadIn, AreWithin}
 use Rattle.pn_tree.specs.declared.element.Element.{Element}
 use Rattle.pn_tree.specs.declared.tables.Span.{Span}
 use Rattle.pn_tree.specs.declared.tables.Slot.{Slot}
@@ -15,16 +15,16 @@ use Rattle.pn_tree.specs.declared.tables.Tables.{Tables}
 use Rattle.pn_tree.specs.declared.site.Site.{Site}
 
 -- an open element with what it was given so far: its kids are among those that are still to be placed
-abbrev pub so_far : Content → List Slot → Node → Element
+abbrev pub so_far : TableLists → List Slot → Node → Element
 so_far t pending f = made_of (element_in 256 t) t pending f
 
 -- the open elements, the last one first, before others
-abbrev pub stacked : Content → List Slot → List Node → List Element → List Element
+abbrev pub stacked : TableLists → List Slot → List Node → List Element → List Element
 stacked t pending [] es = es
 stacked t pending (f ∷ fs) es = stacked t pending fs (so_far t pending f ∷ es)
 
 -- the elements that are open, the innermost first: none where there is no innermost one
-abbrev pub all_open : Content → List Slot → Option Node → List Node → List Element
+abbrev pub all_open : TableLists → List Slot → Option Node → List Node → List Element
 all_open t pending None outer = []
 all_open t pending (Some f) outer = so_far t pending f ∷ stacked t pending outer []
 
@@ -43,7 +43,7 @@ abbrev pub EndsInText : List ℕ → List Slot → ℕ → Type 0
 EndsInText bytes pending start = (front : List Slot) (s : Span) → pending ≡ front ++ (slots.Text s ∷ []) → start ≤ length front → s.end ≡ length bytes
 
 -- what holds of the open elements, the innermost one apart from those around it
-pub record IsOpen (t : Content) (pending : List Slot) (outer : List Node) (f : Node) : Type 0 where
+pub record IsOpen (t : TableLists) (pending : List Slot) (outer : List Node) (f : Node) : Type 0 where
   pub places : All (IsSlotIn t.bytes (length t.nodes)) pending
   pub heads : All (IsHeadIn t) outer
   pub head : IsHeadIn t f
@@ -55,7 +55,7 @@ pub record IsOpen (t : Content) (pending : List Slot) (outer : List Node) (f : N
   pub fits : are_open (so_far t pending f ∷ stacked t pending outer []) ≡ true
 
 -- there is room for so many nodes, and for so many kids more than those that are to be placed
-pub record HasRoom {Z : Type 0} (many more : ℕ) (t : Tables) (pending : Vec Slot Z) : Type 0 where
+pub record HasSpare {Z : Type 0} (many more : ℕ) (t : Tables) (pending : Vec Slot Z) : Type 0 where
   pub nodes : vec_len t.nodes + many ≤ vec_capacity t.nodes
   pub nodes_fit : vec_len t.nodes + many < 2 ^ 32
   pub kids : vec_len t.kids + (vec_len pending + more) ≤ vec_capacity t.kids
@@ -63,7 +63,7 @@ pub record HasRoom {Z : Type 0} (many more : ℕ) (t : Tables) (pending : Vec Sl
   pub places : vec_len pending + more ≤ vec_capacity pending
 
 -- the node is the root of a tree
-pub record IsRoot (t : Content) (node : ℕ) : Type 0 where
+pub record IsRoot (t : TableLists) (node : ℕ) : Type 0 where
   pub there : node < length t.nodes
   pub is_tree : IsTree (element_in 256 t node)
 
@@ -72,7 +72,7 @@ pub record IsSite (s : Site) : Type 0 where
   pub tables : AreWithin (content s.tables)
   pub root : IfSome s.root (IsRoot (content s.tables))
   pub opened : IfSome s.inner (IsOpen (content s.tables) s.pending.items s.outer.items)
-  pub room : IfSome s.inner (λ _. HasRoom (suc (vec_len s.outer)) (suc (vec_len s.outer)) s.tables s.pending)
+  pub room : IfSome s.inner (λ _. HasSpare (suc (vec_len s.outer)) (suc (vec_len s.outer)) s.tables s.pending)
 
 -- what a builder's parts say
 abbrev pub built : Site → Building

@@ -18,13 +18,13 @@ abbrev pub cut : {X : Type 0} → Span → List X → List X
 cut s xs = take (s.end - s.start) (drop s.start xs)
 
 -- the tables as lists
-pub record Content : Type 0 where
+pub record TableLists : Type 0 where
   pub bytes : List ℕ
   pub attrs : List Pair
   pub kids : List Slot
   pub nodes : List Node
 
-abbrev pub content : Tables → Content
+abbrev pub content : Tables → TableLists
 content t = record { bytes = t.bytes.items; attrs = t.attrs.items; kids = t.kids.items; nodes = t.nodes.items }
 
 abbrev pub attr_in : List ℕ → Pair → Attr
@@ -36,7 +36,7 @@ kid_in element bytes (slots.Element i) = children.Element (element i)
 kid_in element bytes (slots.Text s) = children.Text (cut s bytes)
 
 -- a node as an element, whose kids stand in a list
-abbrev pub made_of : (ℕ → Element) → Content → List Slot → Node → Element
+abbrev pub made_of : (ℕ → Element) → TableLists → List Slot → Node → Element
 made_of element t places n = record {
   name = cut n.name t.bytes;
   at = n.at;
@@ -54,7 +54,7 @@ abbrev pub no_node : Node
 no_node = record { name = empty_span; at = 0; attrs = empty_span; kids = empty_span }
 
 -- the element that a node is, down to so many levels
-unfoldable pub element_in : ℕ → Content → ℕ → Element
+unfoldable pub element_in : ℕ → TableLists → ℕ → Element
 element_in zero t i = no_element
 element_in (suc levels) t i = made_of (element_in levels t) t t.kids (slice_index_or t.nodes i no_node)
 
@@ -77,30 +77,30 @@ IsSlotIn bytes nodes (slots.Element i) = i < nodes
 IsSlotIn bytes nodes (slots.Text s) = IsTextIn bytes s
 
 -- the node's name and attributes stand there
-pub record IsHeadIn (t : Content) (n : Node) : Type 0 where
+pub record IsHeadIn (t : TableLists) (n : Node) : Type 0 where
   pub name : IsTextIn t.bytes n.name
   pub attrs : IsSpan (length t.attrs) n.attrs
 
-pub record IsNodeIn (t : Content) (n : Node) : Type 0 where
+pub record IsNodeIn (t : TableLists) (n : Node) : Type 0 where
   pub head : IsHeadIn t n
   pub kids : IsSpan (length t.kids) n.kids
 
 -- all that stands in the tables points into them
-pub record AreWithin (t : Content) : Type 0 where
+pub record AreWithin (t : TableLists) : Type 0 where
   pub attrs : All (IsPairIn t.bytes) t.attrs
   pub kids : All (IsSlotIn t.bytes (length t.nodes)) t.kids
   pub nodes : All (IsNodeIn t) t.nodes
 
 -- the list has grown at its end
-abbrev pub IsFront : {X : Type 0} → List X → List X → Type 0
-IsFront {X} xs ys = (more : List X) × (ys ≡ xs ++ more)
+abbrev pub HasGrown : {X : Type 0} → List X → List X → Type 0
+HasGrown {X} xs ys = (more : List X) × (ys ≡ xs ++ more)
 
 -- the tables have grown
-pub record HaveGrown (old new : Content) : Type 0 where
-  pub bytes : IsFront old.bytes new.bytes
-  pub attrs : IsFront old.attrs new.attrs
-  pub kids : IsFront old.kids new.kids
-  pub nodes : IsFront old.nodes new.nodes
+pub record HaveGrown (old new : TableLists) : Type 0 where
+  pub bytes : HasGrown old.bytes new.bytes
+  pub attrs : HasGrown old.attrs new.attrs
+  pub kids : HasGrown old.kids new.kids
+  pub nodes : HasGrown old.nodes new.nodes
 
 -- the text was put behind the bytes
 pub record IsPut (old new text : List ℕ) (s : Span) : Type 0 where

@@ -2,9 +2,9 @@ ghost use Rattle.std.specs.Prelude.{◌≡◌, suc, ◌+◌, ◌^◌, ◌<◌, �
 ghost use Rattle.pn_text.specs.Characters.{is_name, is_text};
 ghost use Rattle.pn_tree.specs.Elements.{attr_value};
 ghost use Rattle.pn_tree.specs.Building.{nothing_built, innermost, begun, at_innermost, with_attr, with_text, ended};
-ghost use Rattle.pn_tree.specs.Tables.{content, AreWithin, HaveGrown, IsFront};
-ghost use Rattle.pn_tree.specs.Frames.{AreSideBySide, HasRoom, IsSite, built};
-ghost use Rattle.pn_tree.specs.Changes.{IsBegun, HasBytes, IsEnclosed, IsPairPut, HasAttr, IsTextAdded, IsTextTaken, HasNoText, joined_span, IsTextPlaced, IsClosed};
+ghost use Rattle.pn_tree.specs.Tables.{content, AreWithin, HaveGrown, HasGrown};
+ghost use Rattle.pn_tree.specs.Frames.{AreSideBySide, HasSpare, IsSite, built};
+ghost use Rattle.pn_tree.specs.Changes.{IsNewNode, HasBytes, IsEnclosed, IsPairPut, HasAttr, IsTextAdded, IsTextTaken, HasNoText, joined_span, IsTextPlaced, IsClosed};
 ghost use Rattle.pn_tree.specs.declared.tables.Slot.TheVariants as slots;
 
 use crate::Tree;
@@ -42,8 +42,8 @@ fn new_node(
     attrs: usize,
     kids: usize,
 ) -> Result<Node, AllocError>
-    ensures grown { IsFront bytes.old.items bytes.new.items }
-    ensures begun { IfOk result (IsBegun bytes.old.items bytes.new.items name.now at attrs kids) }
+    ensures grown { HasGrown bytes.old.items bytes.new.items }
+    ensures begun { IfOk result (IsNewNode bytes.old.items bytes.new.items name.now at attrs kids) }
 {
     Ok(Node {
         name: put_text(bytes, name)?,
@@ -76,7 +76,7 @@ fn enclose(
 fn make_room(tables: &mut Tables, pending: &mut Vec<Slot>, outer: usize) -> Result<(), AllocError>
     ensures tables { content tables.new ≡ content tables.old }
     ensures pending { pending.new.items ≡ pending.old.items }
-    ensures room { OnOk result (HasRoom (outer + 2) (outer + 2) tables.new pending.new) }
+    ensures room { OnOk result (HasSpare (outer + 2) (outer + 2) tables.new pending.new) }
 {
     let more = fit_both(outer, 2)?;
     let places = fit_both(pending.len(), more)?;
@@ -89,7 +89,7 @@ fn make_room(tables: &mut Tables, pending: &mut Vec<Slot>, outer: usize) -> Resu
 
 /// Puts the bytes of an attribute behind the others.
 fn put_pair(bytes: &mut Vec<u8>, name: &str, value: &str) -> Result<Pair, AllocError>
-    ensures grown { IsFront bytes.old.items bytes.new.items }
+    ensures grown { HasGrown bytes.old.items bytes.new.items }
     ensures put { IfOk result (IsPairPut bytes.old.items bytes.new.items name.now value.now) }
 {
     Ok(Pair {
@@ -170,7 +170,7 @@ fn add_text(
     ensures added { OnOk result (IsTextAdded start (content tables.old) (content tables.new)
         pending.old.items pending.new.items text.now) }
     ensures count { IfOk result (λ n. n ≡ length pending.new.items) }
-    ensures room { OnOk result (HasRoom (suc outer) (suc outer) tables.new pending.new) }
+    ensures room { OnOk result (HasSpare (suc outer) (suc outer) tables.new pending.new) }
 {
     let span = put_text(&mut tables.bytes, text)?;
     make_room(tables, pending, outer)?;
@@ -189,9 +189,9 @@ fn begin_node(
     ensures grown { HasBytes (content tables.old) (content tables.new) }
     ensures enclosed { OnOk result
         (IsEnclosed inner outer.old.items pending.old.items outer.new.items pending.new.items) }
-    ensures begun { IfOk result (IsBegun tables.old.bytes.items tables.new.bytes.items name.now at
+    ensures begun { IfOk result (IsNewNode tables.old.bytes.items tables.new.bytes.items name.now at
         (length tables.old.attrs.items) (length pending.new.items)) }
-    ensures room { OnOk result (HasRoom (suc (vec_len outer.new)) (suc (vec_len outer.new)) tables.new pending.new) }
+    ensures room { OnOk result (HasSpare (suc (vec_len outer.new)) (suc (vec_len outer.new)) tables.new pending.new) }
 {
     enclose(outer, pending, inner)?;
     make_room(tables, pending, outer.len())?;
@@ -207,10 +207,10 @@ fn begin_node(
 /// Moves the kids of an element into the tables, and puts its node behind the others. Takes no memory.
 fn close(tables: &mut Tables, pending: &mut Vec<Slot>, inner: Node, outer: usize) -> u32
     requires ordered { inner.kids.start ≤ length pending.old.items }
-    requires room { HasRoom (suc outer) (suc outer) tables.old pending.old }
+    requires room { HasSpare (suc outer) (suc outer) tables.old pending.old }
     ensures closed { IsClosed (content tables.old) (content tables.new) pending.old.items pending.new.items inner }
     ensures place { result ≡ length tables.old.nodes.items }
-    ensures room { HasRoom outer (suc outer) tables.new pending.new }
+    ensures room { HasSpare outer (suc outer) tables.new pending.new }
     ensures kid { vec_len pending.new < vec_capacity pending.new }
     ensures fit { vec_len pending.new + 1 < 2 ^ 32 }
 {

@@ -8,13 +8,13 @@ pub(crate) struct Store {
 }
 
 impl Model for Store {
-    ghost use Rattle.pn_tree.specs.Tables.{Content, content, AreWithin};
+    ghost use Rattle.pn_tree.specs.Tables.{TableLists, content, AreWithin};
     ghost use Rattle.pn_tree.specs.contracts.tables.Node as n;
     ghost use Rattle.pn_tree.specs.contracts.tables.Pair as p;
     ghost use Rattle.pn_tree.specs.contracts.tables.Slot as s;
     ghost use Rattle.std.specs.Coded.{codes};
 
-    ghost Value = { Content };
+    ghost Value = { TableLists };
 
     ghost coded = { Prim.hlevel (codes, n.the_row.coded, p.the_row.coded, s.the_row.coded) };
 

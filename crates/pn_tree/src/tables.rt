@@ -1,5 +1,5 @@
 ghost use Rattle.std.specs.Prelude.{◌≡◌, ◌<◌, ◌+◌, ◌-◌, ◌≤◌, ◌^◌, length, IfOk};
-ghost use Rattle.pn_tree.specs.Tables.{cut, IsFront, IsTextIn, IsPut};
+ghost use Rattle.pn_tree.specs.Tables.{cut, HasGrown, IsTextIn, IsPut};
 
 use std::alloc::AllocError;
 
@@ -82,7 +82,7 @@ pub(crate) fn fit_both(first: usize, second: usize) -> Result<usize, AllocError>
 
 /// Puts a text behind the bytes.
 pub(crate) fn put_text(bytes: &mut Vec<u8>, text: &str) -> Result<Span, AllocError>
-    ensures grown { IsFront bytes.old.items bytes.new.items }
+    ensures grown { HasGrown bytes.old.items bytes.new.items }
     ensures put { IfOk result (IsPut bytes.old.items bytes.new.items text.now) }
 {
     let start = fit(bytes.len())?;

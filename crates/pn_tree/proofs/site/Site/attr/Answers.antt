@@ -2,7 +2,7 @@ use Rattle.std.proofs.Common.{suc, refl, sym, ◌∙◌}
 use Rattle.std.specs.Vec.{vec_len}
 use Rattle.pn_tree.specs.Building.{with_attr}
 use Rattle.pn_tree.specs.Tables.{content}
-use Rattle.pn_tree.specs.Frames.{HasRoom}
+use Rattle.pn_tree.specs.Frames.{HasSpare}
 use Rattle.pn_tree.proofs.SiteLemmas.{failed, of_inner, attr_within, attr_grown, attr_at, changed_at, room_same}
 use Rattle.pn_tree.proofs.TableLemmas.{root_grown}
 use Rattle.pn_tree.proofs.site.Site.attr.Goals as goal
@@ -26,7 +26,7 @@ returns-in_ok-end-clause-kept c =
           c.requires.is_new).opened;
       room =
           room_same (suc (vec_len s.outer)) (suc (vec_len s.outer)) s.tables c.put_attr.new.tables s.pending c.in_ok-end.ensures.kids c.in_ok-end.ensures.nodes
-          (of_inner s.inner c.in-Some.node (λ _. HasRoom (suc (vec_len s.outer)) (suc (vec_len s.outer)) s.tables s.pending) is c.requires.kept.room);
+          (of_inner s.inner c.in-Some.node (λ _. HasSpare (suc (vec_len s.outer)) (suc (vec_len s.outer)) s.tables s.pending) is c.requires.kept.room);
     }
 
 pub returns-in_ok-end-clause-given : goal.returns-in_ok-end-clause-given

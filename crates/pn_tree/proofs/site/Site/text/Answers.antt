@@ -2,7 +2,7 @@ use Rattle.std.proofs.Common.{suc, ◌==◌, length, refl, sym, ap, ◌∙◌, s
 use Rattle.std.proofs.lemmas.Bool.{false≢true}
 use Rattle.pn_tree.specs.Building.{with_text}
 use Rattle.pn_tree.specs.Tables.{content}
-use Rattle.pn_tree.specs.Frames.{HasRoom}
+use Rattle.pn_tree.specs.Frames.{HasSpare}
 use Rattle.pn_tree.proofs.SiteLemmas.{failed, bytes_within, bytes_grown, changed_at}
 use Rattle.pn_tree.proofs.GivenLemmas.{text_at}
 use Rattle.pn_tree.proofs.TableLemmas.{root_grown}
@@ -24,7 +24,7 @@ returns-in_ok-end-clause-kept c =
           (text_at s u c.add_text.new.pending.items c.in-Some.node c.args.text.now c.in_ok-end.end grown c.requires.kept is c.requires.text
           (λ e. false≢true (c.if-is_empty.ensures ∙ ap (λ l. length l == 0) e))
           c.in_ok-end.ensures.added c.in_ok-end.ensures.count).opened;
-      room = subst (λ n. HasRoom (suc n) (suc n) c.add_text.new.tables c.add_text.new.pending) c.len-outer.ensures c.in_ok-end.ensures.room;
+      room = subst (λ n. HasSpare (suc n) (suc n) c.add_text.new.tables c.add_text.new.pending) c.len-outer.ensures c.in_ok-end.ensures.room;
     }
 
 pub returns-in_ok-end-clause-given : goal.returns-in_ok-end-clause-given
