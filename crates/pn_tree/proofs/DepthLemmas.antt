@@ -10,8 +10,8 @@ use Rattle.pn_tree.specs.declared.element.Child.TheVariants as children
 use Rattle.pn_tree.specs.declared.element.Child.TheViews.{out-Child, roll-Child, roll-out-Child}
 use Rattle.pn_tree.specs.declared.element.Child.TheVariants.{rolls-Element}
 use Rattle.pn_tree.specs.declared.element.Child.TheFolds.{fold_out-Element, fold-roll-Child}
-use Rattle.pn_tree.proofs.TreeLemmas.{parts_of, of_parts, not_element-zero}
-use Rattle.pn_facts.proofs.Truths.{and_left, and_right, and_both}
+use Rattle.pn_tree.proofs.TreeLemmas.{parts_of, not_element-zero}
+use Rattle.pn_facts.proofs.Truths.{and_left, and_right}
 
 pub depth_is : (e : Element) → depth_of e ≡ suc (greatest (map kid_depth e.kids))
 depth_is e = fold_out-Element ℕ ℕ kid_levels element_levels e ∙ refl
@@ -24,32 +24,6 @@ out_depth k x is = ap kid_depth (sym (roll-out-Child k) ∙ ap roll-Child is ∙
 
 text_depth : (k : Child) (t : List ℕ) → out-Child k ≡ layer.Text t → kid_depth k ≡ 0
 text_depth k t is = ap kid_depth (sym (roll-out-Child k) ∙ ap roll-Child is) ∙ fold-roll-Child ℕ ℕ kid_levels element_levels (layer.Text t)
-
-kid_fits : (p q : Element → Bool) (n : ℕ) → ((x : Element) → p x ≡ true → depth_of x ≤ n → q x ≡ true) → (k : Child) (l : layer.Child-F Child Element) → out-Child k ≡ l
-    → kid_depth k ≤ n → is_kid_layer p l ≡ true → is_kid_layer q l ≡ true
-kid_fits p q n f k (layer.Element x) is d h = f x h (omega (arith, out_depth k x is))
-kid_fits p q n f k (layer.Text t) is d h = h
-
-kids_fit : (p q : Element → Bool) (n : ℕ) → ((x : Element) → p x ≡ true → depth_of x ≤ n → q x ≡ true) → (ks : List Child) → greatest (map kid_depth ks) ≤ n
-    → list_all (is_kid p) ks ≡ true → list_all (is_kid q) ks ≡ true
-kids_fit p q n f [] d h = refl
-kids_fit p q n f (k ∷ ks) d h =
-    and_both (is_kid q k) (list_all (is_kid q) ks)
-    (kid_fits p q n f k (out-Child k) refl (omega arith) (and_left (is_kid p k) (list_all (is_kid p) ks) h))
-    (kids_fit p q n f ks (omega arith) (and_right (is_kid p k) (list_all (is_kid p) ks) h))
-
--- an element fits in as many levels as it has
-pub fits_depth : (m n : ℕ) (e : Element) → is_element m e ≡ true → depth_of e ≤ n → is_element n e ≡ true
-fits_depth zero n e h d = absurd (not_element-zero e h)
-fits_depth (suc m) zero e h d = absurd (omega (arith, depth_is e))
-fits_depth (suc m) (suc n) e h d =
-    let p = parts_of m e h in
-    of_parts n e (record {
-      name = p.name;
-      attrs = p.attrs;
-      apart = p.apart;
-      kids = kids_fit (is_element m) (is_element n) n (λ (x : Element). fits_depth m n x) e.kids (omega (arith, depth_is e)) p.kids;
-    })
 
 pub kid_depth-le : (ks : List Child) (i : ℕ) (k : Child) → slice_get ks i ≡ Some k → kid_depth k ≤ greatest (map kid_depth ks)
 kid_depth-le [] i k is = absurd cc

@@ -1,14 +1,12 @@
 -- The open elements of a builder stay such that their ends make a tree.
-use Rattle.std.proofs.Common.{◌≡◌, ℕ, zero, suc, ◌+◌, ◌-◌, ◌<◌, ◌≤◌, Bool, true, false, ◌&&◌, not, cond, List, [], ◌∷◌, ◌++◌, length, Some, None, refl, sym, ap, ◌∙◌, subst, arith}
+use Rattle.std.proofs.Common.{◌≡◌, ℕ, zero, suc, ◌-◌, ◌<◌, Bool, true, false, ◌&&◌, not, cond, List, [], ◌∷◌, ◌++◌, length, Some, None, refl, sym, ap, ◌∙◌, subst, arith}
 use Rattle.std.specs.List.{list_all}
 use Rattle.std.specs.Option.{is_none}
 use Rattle.std.specs.Str.{bytes_eq}
 use Rattle.std.proofs.lemmas.Bool.{false≢true}
 use Rattle.std.proofs.lemmas.List.Folds.{list_all-append}
 use Rattle.pn_text.specs.Characters.{is_name, is_text}
-use Rattle.pn_tree.specs.Elements.{attr_value, are_attrs, is_text_kid, is_text_layer, begins_with_text, are_apart, is_kid, is_kid_layer, is_kid_text, is_element, IsTree}
-use Rattle.pn_tree.specs.Depth.{depth_of}
-use Rattle.pn_tree.proofs.DepthLemmas.{fits_depth}
+use Rattle.pn_tree.specs.Elements.{attr_value, are_attrs, is_text_kid, is_text_layer, begins_with_text, are_apart, is_kid, is_kid_layer, is_kid_text, is_element}
 use Rattle.pn_tree.specs.Building.{with_attr, with_kid, with_text, joined, joined_last}
 use Rattle.pn_tree.specs.Frames.{are_open}
 use Rattle.pn_tree.specs.declared.element.Attr.{Attr}
@@ -153,7 +151,7 @@ kid_parts levels e k h p = record {
 
 -- the open elements
 
-parts_at : (n : ℕ) (e : Element) → is_element n e ≡ true → (k : ℕ) × (n ≡ suc k) × Parts k e
+pub parts_at : (n : ℕ) (e : Element) → is_element n e ≡ true → (k : ℕ) × (n ≡ suc k) × Parts k e
 parts_at zero e h = absurd (not_element-zero e h)
 parts_at (suc k) e h = (k, refl, parts_of k e h)
 
@@ -175,16 +173,6 @@ open_begun name at es n lt h =
     let e : Element = record { name = name; at = at; attrs = []; kids = [] } in
     let is : 256 - length es ≡ suc (255 - length es) = omega arith in
     and_both (is_element (256 - length es) e) (are_open es) (element_at (256 - length es) (255 - length es) e is (begun_parts (255 - length es) name at n)) h
-
--- a part was placed in it
-pub open_placed : (e k : Element) (es : List Element) → IsTree k → length (e ∷ es) + depth_of k ≤ 256 → are_open (e ∷ es) ≡ true
-    → are_open (with_kid (children.Element k) e ∷ es) ≡ true
-open_placed e k es part depth h =
-    open_changed (with_kid (children.Element k)) e es
-    (λ n is p. kid_parts n e k (fits_depth 256 n k part (deep_enough (length es) n (depth_of k) is depth)) p) h
-  where
-    deep_enough : (l n d : ℕ) → 256 - l ≡ suc n → suc l + d ≤ 256 → d ≤ n
-    deep_enough l n d is le = omega arith
 
 -- it was ended
 pub open_closed : (e p : Element) (es : List Element) → are_open (e ∷ p ∷ es) ≡ true → are_open (with_kid (children.Element e) p ∷ es) ≡ true

@@ -1,12 +1,14 @@
 -- The texts of attributes and elements, as they are put piece by piece.
-use Rattle.std.proofs.Common.{◌≡◌, ℕ, ◌<◌, List, [], ◌∷◌, ◌++◌, length, get_or, take, map, Option, Result, refl, sym, ap, ◌∙◌, subst, append_assoc, append-nil}
-use Rattle.std.specs.List.{flat_map}
+use Rattle.std.proofs.Common.{◌≡◌, ℕ, zero, suc, ◌+◌, ◌<◌, List, [], ◌∷◌, ◌++◌, length, get_or, take, map, Option, Some, Result, refl, sym, ap, ◌∙◌, subst, arith, append_assoc, append-nil}
+use Rattle.std.specs.List.{flat_map, slice_get}
+use Rattle.std.proofs.lemmas.Grind.{flat_map-append}
 use Rattle.pn_outside.specs.Taking.{Takes, TakesFront, Puts}
-use Rattle.pn_outside.proofs.TakingLemmas.{front_of_pieces}
+use Rattle.pn_outside.proofs.TakingLemmas.{takes_both, front_of_pieces}
 use Rattle.pn_tree.specs.Canonical.{attr_text, child_text, content_text, element_text, escaped_value}
 use Rattle.pn_tree.specs.declared.element.Attr.{Attr}
 use Rattle.pn_tree.specs.declared.element.Element.{Element}
 use Rattle.pn_tree.specs.declared.element.Child.{Child}
+use Rattle.pn_tree.proofs.CopyLemmas.{take_next}
 use Rattle.pn_tree.proofs.ElementLemmas.{element_text_is}
 
 pub attr_pieces : (a : Attr) (name value : List ℕ) → name ≡ a.name → value ≡ a.value
@@ -43,12 +45,27 @@ full_pieces e ks name k n some =
     ∙ ap (λ l. (60 ∷ (e.name ++ flat_map attr_text e.attrs)) ++ (62 ∷ (flat_map child_text e.kids ++ (60 ∷ 47 ∷ (l ++ 62 ∷ []))))) n
     ∙ ap (λ l. (60 ∷ (e.name ++ flat_map attr_text e.attrs)) ++ l) (sym (content_full e.name e.kids some)) ∙ content_pieces e
 
+at_place : {A : Type 0} (xs : List A) (i : ℕ) (x : A) → slice_get xs i ≡ Some x → (i < length xs) × (x ≡ get_or xs i x)
+at_place [] i x is = absurd cc
+at_place (y ∷ ys) zero x is = let same : y ≡ x = cc in (omega arith, sym same)
+at_place (y ∷ ys) (suc i) x is = let rest = at_place ys i x is in (omega (arith, rest.0), rest.1)
+
 module _ {S : Type 0} {taken : S → Option (List ℕ)} {number : S → Option ℕ} where
   -- the same text under another name
   pub puts_as : {E : Type 0} (a b : S) (xs ys : List ℕ) (r : Result (Unit {0}) E) → xs ≡ ys → Puts taken number r a b xs → Puts taken number r a b ys
   puts_as a b xs ys r is p = subst (Puts taken number r a b) is p
 
-  -- a loop of puts failed at the item x
-  pub item_failed : {A : Type 0} (a b c : S) (text : A → List ℕ) (xs : List A) (i : ℕ) (x : A) → i < length xs → x ≡ get_or xs i x
+  -- a loop of puts failed at the item that stands at this place
+  pub shown_failed : {A : Type 0} (a b c : S) (text : A → List ℕ) (xs : List A) (i : ℕ) (x : A) → slice_get xs i ≡ Some x
       → Takes taken number a b (flat_map text (take i xs)) → TakesFront taken number b c (text x) → TakesFront taken number a c (flat_map text xs)
-  item_failed a b c text xs i x lt is p q = front_of_pieces a b c text xs i x lt p (subst (λ y. TakesFront taken number b c (text y)) is q)
+  shown_failed a b c text xs i x is p q =
+      let there = at_place xs i x is in
+      front_of_pieces a b c text xs i x there.0 p (subst (λ y. TakesFront taken number b c (text y)) there.1 q)
+
+  -- the item that stands at this place was put
+  pub shown_taken : {A : Type 0} (a b c : S) (text : A → List ℕ) (xs : List A) (i : ℕ) (x : A) → slice_get xs i ≡ Some x
+      → Takes taken number a b (flat_map text (take i xs)) → Takes taken number b c (text x) → Takes taken number a c (flat_map text (take (i + 1) xs))
+  shown_taken a b c text xs i x is p q =
+      let next : flat_map text (take i xs) ++ text x ≡ flat_map text (take (i + 1) xs) =
+      ap (λ l. flat_map text (take i xs) ++ l) (sym (append-nil (text x))) ∙ sym (flat_map-append text (take i xs) (x ∷ [])) ∙ ap (flat_map text) (sym (take_next xs i x is)) in
+      subst (Takes taken number a c) next (takes_both a b c (flat_map text (take i xs)) (text x) p q)

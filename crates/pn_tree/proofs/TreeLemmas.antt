@@ -1,17 +1,15 @@
 -- What holds of the parts of an element that a tree may have.
-use Rattle.std.proofs.Common.{◌≡◌, ℕ, zero, suc, ◌<◌, ◌≤◌, Bool, true, ◌&&◌, length, get_or, sym, ap, ◌∙◌, arith}
+use Rattle.std.proofs.Common.{◌≡◌, ℕ, zero, suc, ◌≤◌, Bool, true, ◌&&◌, arith}
 use Rattle.std.specs.List.{list_all}
 use Rattle.std.proofs.lemmas.Bool.{false≢true}
 use Rattle.pn_facts.proofs.Truths.{and_left, and_right, and_both}
-use Rattle.pn_facts.proofs.Lists.{list_all_each, list_all_get}
+use Rattle.pn_facts.proofs.Lists.{list_all_each}
 use Rattle.pn_text.specs.Characters.{is_name}
-use Rattle.pn_tree.specs.Elements.{are_attrs, are_apart, is_kid, is_kid_layer, is_element, IsTree}
+use Rattle.pn_tree.specs.Elements.{are_attrs, are_apart, is_kid, is_kid_layer, is_element}
 use Rattle.pn_tree.specs.declared.element.Element.{Element}
 use Rattle.pn_tree.specs.declared.element.Child.{Child}
 use Rattle.pn_tree.specs.declared.element.Child.TheOpen as layer
-use Rattle.pn_tree.specs.declared.element.Child.TheVariants as children
 use Rattle.pn_tree.specs.declared.element.Child.TheViews.{out-Child}
-use Rattle.pn_tree.proofs.ElementLemmas.{is_kid-element}
 
 -- what an element of at most `suc levels` levels has
 pub record Parts (levels : ℕ) (e : Element) : Type 0 where
@@ -62,12 +60,3 @@ is_element_more (suc m) (suc n) e le h =
       kids = list_all_each (is_kid (is_element m)) (is_kid (is_element n))
           (λ (k : Child). layer_each (is_element m) (is_element n) (λ (x : Element). is_element_more m n x (omega arith)) (out-Child k)) e.kids p.kids;
     })
-
--- an element among the kids has a level less
-pub kid_is_element : (levels i : ℕ) (e k : Element) (d : Child) → i < length e.kids → children.Element k ≡ get_or e.kids i d → is_element (suc levels) e ≡ true → is_element levels k ≡ true
-kid_is_element levels i e k d lt is h =
-    sym (is_kid-element (is_element levels) k) ∙ ap (is_kid (is_element levels)) is
-    ∙ list_all_get (is_kid (is_element levels)) e.kids i d lt (parts_of levels e h).kids
-
-pub kid_is_tree : (i : ℕ) (e k : Element) (d : Child) → i < length e.kids → children.Element k ≡ get_or e.kids i d → IsTree e → IsTree k
-kid_is_tree i e k d lt is h = is_element_more 255 256 k (omega arith) (kid_is_element 255 i e k d lt is h)

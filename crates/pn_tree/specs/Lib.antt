@@ -1,8 +1,11 @@
 pub mod Elements
 pub mod Depth
 pub mod Building
+pub mod Tables
 pub mod Frames
+pub mod Changes
 pub mod Canonical
 pub mod Views
+pub mod Copies
+pub mod Walks
 pub mod Places
-pub mod Endings

@@ -1,6 +1,7 @@
 -- The element of a view, by which clauses name views.
 use Rattle.std.specs.Prelude.{ℕ, ◌<◌}
 use Rattle.pn_tree.specs.Depth.{depth_of}
+use Rattle.pn_tree.specs.Tables.{element_in}
 use Rattle.pn_tree.specs.declared.element.Element.{Element}
 use Rattle.pn_tree.specs.declared.element.Child.{Child}
 use Rattle.pn_tree.specs.declared.element.Child.TheVariants as children
@@ -10,7 +11,7 @@ use Rattle.pn_tree.specs.declared.view.Kid.TheVariants as kids
 
 -- the element that a view shows
 abbrev pub element_of : View → Element
-element_of v = v.element.now
+element_of v = element_in 256 v.store.now v.node
 
 -- the kid that is shown
 abbrev pub child_of : Kid → Child

@@ -1,20 +1,18 @@
-use crate::frame::Frame;
-use crate::stack::{Ended, close, enclose};
-use crate::{Child, Element, Tree, View};
+use crate::copy::copy_element;
+use crate::site::Site;
+use crate::{Tree, View};
 use std::alloc::{AllocError, Global};
 use std::marker::Model;
 
 /// Makes a tree from its parts, given in their order. Contracts see the root, once it is ended,
 /// and the elements that are begun and not ended, the innermost first.
 ///
-/// Each call that may want memory answers `AllocError` for nothing else. After that a builder may
-/// only be dropped.
+/// Each call that may want memory answers `AllocError` for nothing else, also where one of the tree's
+/// tables would pass 2^32 - 1 places: bytes of names and texts, attributes, kids or elements. After
+/// that a builder may only be dropped.
 #[derive(Debug, Drop)]
 pub struct Builder {
-    alloc: Global,
-    root: Option<Element>,
-    inner: Option<Frame>,
-    outer: Vec<Frame>,
+    site: Site,
 }
 
 impl Model for Builder {
@@ -26,11 +24,11 @@ impl Model for Builder {
 
     ghost coded = { Prim.hlevel (codes, e.the_row.coded) };
 
-    ghost use Rattle.pn_tree.specs.Frames.{all_open, IsBuilder};
+    ghost use Rattle.pn_tree.specs.Frames.{IsSite, built};
 
-    ghost view = { λ b. record { root = b.root; open_elements = all_open b.inner b.outer.items } };
+    ghost view = { λ b. built b.site };
 
-    ghost invariant = { λ b. IsBuilder b.root b.inner b.outer.items };
+    ghost invariant = { λ b. IsSite b.site };
 }
 
 impl Builder {
@@ -47,10 +45,7 @@ impl Builder {
         ensures { result ≡ nothing_built }
     {
         Builder {
-            alloc,
-            root: None,
-            inner: None,
-            outer: Vec::new(alloc),
+            site: Site::new(alloc),
         }
     }
 
@@ -62,10 +57,16 @@ impl Builder {
         requires depth { length self.old.open_elements < 256 }
         ensures { OnOk result (self.new ≡ begun name.now at self.old) }
     {
-        let frame = Frame::begin(self.alloc, name, at)?;
-        enclose(&mut self.outer, self.inner.take())?;
-        self.inner = Some(frame);
-        Ok(())
+        self.begin_next(name, at)
+    }
+
+    /// Begins an element, also where there is a root.
+    pub(crate) fn begin_next(&mut self, name: &str, at: u64) -> Result<(), AllocError>
+        requires name { is_name name.now ≡ true }
+        requires depth { length self.old.open_elements < 256 }
+        ensures { OnOk result (self.new ≡ begun name.now at self.old) }
+    {
+        self.site.begin(name, at)
     }
 
     /// Gives the innermost open element an attribute, behind those that it has.
@@ -77,10 +78,7 @@ impl Builder {
         requires is_new { IfSome (innermost self.old) (λ e. attr_value name.now e.attrs ≡ None) }
         ensures { OnOk result (self.new ≡ at_innermost (with_attr name.now value.now) self.old) }
     {
-        if let Some(frame) = self.inner.take() {
-            self.inner = Some(frame.with_attr(self.alloc, name, value)?);
-        }
-        Ok(())
+        self.site.attr(name, value)
     }
 
     /// Gives the innermost open element a text. It is joined to a text before it, and an empty
@@ -90,10 +88,7 @@ impl Builder {
         requires is_open { IsSome (innermost self.old) }
         ensures { OnOk result (self.new ≡ at_innermost (with_text text.now) self.old) }
     {
-        if let Some(frame) = self.inner.take() {
-            self.inner = Some(frame.with_text(self.alloc, text)?);
-        }
-        Ok(())
+        self.site.text(text)
     }
 
     /// Gives the innermost open element a kid that equals `part`, offsets and all.
@@ -103,11 +98,7 @@ impl Builder {
         ensures { OnOk result
             (self.new ≡ at_innermost (with_kid (children.Element (element_of part.entry))) self.old) }
     {
-        let element = part.copy_element(self.alloc)?;
-        if let Some(frame) = self.inner.take() {
-            self.inner = Some(frame.with_kid(Child::Element(element))?);
-        }
-        Ok(())
+        copy_element(self, part)
     }
 
     /// Ends the innermost open element. Takes no memory.
@@ -115,12 +106,7 @@ impl Builder {
         requires { IsSome (innermost self.old) }
         ensures { self.new ≡ ended self.old }
     {
-        if let Some(frame) = self.inner.take() {
-            match close(&mut self.outer, frame) {
-                Ended::Root(root) => self.root = Some(root),
-                Ended::Within(parent) => self.inner = Some(parent),
-            }
-        }
+        self.site.end()
     }
 
     /// The tree, once its root is ended. Takes no memory.
@@ -128,15 +114,6 @@ impl Builder {
         requires { IsSome self.root }
         ensures { self.root ≡ Some result }
     {
-        let Builder {
-            alloc: _,
-            root,
-            inner: _,
-            outer: _,
-        } = self;
-        match root {
-            Some(root) => Tree::new(root),
-            None => unreachable!(),
-        }
+        self.site.into_tree()
     }
 }

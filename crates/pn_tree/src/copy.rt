@@ -1,59 +1,58 @@
-ghost use Rattle.std.specs.Prelude.{◌≡◌, IfOk};
+ghost use Rattle.std.specs.Prelude.{◌≡◌, ◌+◌, ◌≤◌, ◌∷◌, length, OnOk, IsSome};
+ghost use Rattle.pn_tree.specs.Building.{innermost, at_innermost, closed};
+ghost use Rattle.pn_tree.specs.Copies.{IsBlank, HasNoKids, with_attrs, with_kids, with_shown, KidFits};
+ghost use Rattle.pn_tree.specs.Depth.{depth_of};
+ghost use Rattle.pn_tree.specs.Views.{element_of};
 
-use crate::{Attr, Child, Element};
-use sqlite_items::Items;
-use std::alloc::{AllocError, Global};
+use crate::{Builder, Kid, View};
+use std::alloc::AllocError;
 
-/// The same element, in memory of its own. The recursion goes by the depth of the elements, which
-/// is at most 256.
+/// Puts an element that equals `part`, offsets and all, within the innermost open one. The recursion
+/// goes by the depth of the elements, which is at most 256.
 #[cycle(copy)]
-pub(crate) fn copy_element(alloc: Global, element: &Element) -> Result<Element, AllocError>
-    ensures { IfOk result (λ e. e ≡ element.now) }
+pub(crate) fn copy_element(builder: &mut Builder, part: View<'_>) -> Result<(), AllocError>
+    requires { length builder.old.open_elements + depth_of (element_of part) ≤ 256 }
+    ensures { OnOk result
+        (builder.new ≡ closed builder.old.root (element_of part.entry ∷ builder.old.open_elements)) }
 {
-    Ok(Element {
-        name: element.name.copy(alloc)?,
-        at: element.at,
-        attrs: copy_attrs(alloc, element.attrs.as_slice())?,
-        kids: copy_kids(alloc, element.kids.as_slice())?,
-    })
+    builder.begin_next(part.name(), part.at())?;
+    copy_attrs(builder, part)?;
+    copy_kids(builder, part)?;
+    builder.end();
+    Ok(())
 }
 
-fn copy_attrs(alloc: Global, attrs: &[Attr]) -> Result<Items<Attr>, AllocError>
-    ensures { IfOk result (λ all. all ≡ attrs.now) }
+fn copy_attrs(builder: &mut Builder, part: View<'_>) -> Result<(), AllocError>
+    requires { IsBlank (innermost builder.old) }
+    ensures { OnOk result (builder.new ≡ at_innermost (with_attrs (element_of part.entry).attrs) builder.old) }
 {
-    let mut all = Items::new(alloc);
-    for attr in attrs {
-        all.push(copy_attr(alloc, attr)?)?;
+    for i in 0..part.attr_count() {
+        let (name, value) = part.attr(i);
+        builder.attr(name, value)?;
     }
-    Ok(all)
-}
-
-fn copy_attr(alloc: Global, attr: &Attr) -> Result<Attr, AllocError>
-    ensures { IfOk result (λ a. a ≡ attr.now) }
-{
-    Ok(Attr {
-        name: attr.name.copy(alloc)?,
-        value: attr.value.copy(alloc)?,
-    })
+    Ok(())
 }
 
 #[cycle(copy)]
-fn copy_kids(alloc: Global, kids: &[Child]) -> Result<Items<Child>, AllocError>
-    ensures { IfOk result (λ all. all ≡ kids.now) }
+fn copy_kids(builder: &mut Builder, part: View<'_>) -> Result<(), AllocError>
+    requires is_open { HasNoKids (innermost builder.old) }
+    requires depth { length builder.old.open_elements + depth_of (element_of part) ≤ 257 }
+    ensures { OnOk result (builder.new ≡ at_innermost (with_kids (element_of part.entry).kids) builder.old) }
 {
-    let mut all = Items::new(alloc);
-    for kid in kids {
-        all.push(copy_kid(alloc, kid)?)?;
+    for i in 0..part.kid_count() {
+        copy_kid(builder, part.kid(i))?;
     }
-    Ok(all)
+    Ok(())
 }
 
 #[cycle(copy)]
-fn copy_kid(alloc: Global, kid: &Child) -> Result<Child, AllocError>
-    ensures { IfOk result (λ k. k ≡ kid.now) }
+fn copy_kid(builder: &mut Builder, kid: Kid<'_>) -> Result<(), AllocError>
+    requires is_open { IsSome (innermost builder.old) }
+    requires fits { KidFits (length builder.old.open_elements) kid }
+    ensures { OnOk result (builder.new ≡ at_innermost (with_shown kid.entry) builder.old) }
 {
     match kid {
-        Child::Element(element) => Ok(Child::Element(copy_element(alloc, element)?)),
-        Child::Text(text) => Ok(Child::Text(text.copy(alloc)?)),
+        Kid::Element(part) => copy_element(builder, part),
+        Kid::Text(text) => builder.text(text),
     }
 }

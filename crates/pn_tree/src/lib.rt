@@ -4,10 +4,10 @@
 mod builder;
 mod copy;
 mod element;
-mod frame;
 mod put;
-mod stack;
-mod texts;
+mod site;
+mod store;
+mod tables;
 mod tree;
 mod view;
 

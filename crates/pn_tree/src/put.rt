@@ -4,8 +4,9 @@ ghost use Rattle.pn_outside.specs.Cause.{CountsFault, HasCause};
 ghost use Rattle.pn_outside.specs.Taking.{Puts};
 ghost use Rattle.pn_tree.specs.Canonical.{text_escape, value_escape, attr_text, child_text, content_text, element_text, canonical_text};
 ghost use Rattle.pn_tree.specs.Places.{escape_in};
+ghost use Rattle.pn_tree.specs.Views.{element_of, child_of};
 
-use crate::{Attr, Child, Element, Tree};
+use crate::{Kid, Tree, View};
 use pn_outside::{CountSink, Failed, Sink, put_all, put_text};
 
 /// Where a text stands.
@@ -87,74 +88,76 @@ fn put_name<K: Sink>(sink: &mut K, before: &str, name: &str, after: &str) -> Res
     put_text(sink, after)
 }
 
-fn put_attr<K: Sink>(sink: &mut K, attr: &Attr) -> Result<(), Failed>
-    ensures puts { Puts K.taken K.number result sink.old sink.new (attr_text attr.now) }
+fn put_attr<K: Sink>(sink: &mut K, name: &str, value: &str) -> Result<(), Failed>
+    ensures puts { Puts K.taken K.number result sink.old sink.new
+        (attr_text (record { name = name.now; value = value.now })) }
     ensures cause { HasCause (K.faults sink.old) (K.faults sink.new) result }
     ensures counted { CountsFault (K.faults sink.old) (K.faults sink.new) result }
 {
-    put_name(sink, " ", attr.name.as_str(), "=\"")?;
-    put_escaped(sink, Place::Value, attr.value.as_str())?;
+    put_name(sink, " ", name, "=\"")?;
+    put_escaped(sink, Place::Value, value)?;
     put_text(sink, "\"")
 }
 
-fn put_attrs<K: Sink>(sink: &mut K, attrs: &[Attr]) -> Result<(), Failed>
-    ensures puts { Puts K.taken K.number result sink.old sink.new (flat_map attr_text attrs.now) }
+fn put_attrs<K: Sink>(sink: &mut K, part: View<'_>) -> Result<(), Failed>
+    ensures puts { Puts K.taken K.number result sink.old sink.new (flat_map attr_text (element_of part.entry).attrs) }
     ensures cause { HasCause (K.faults sink.old) (K.faults sink.new) result }
     ensures counted { CountsFault (K.faults sink.old) (K.faults sink.new) result }
 {
-    for attr in attrs {
-        put_attr(sink, attr)?;
+    for i in 0..part.attr_count() {
+        let (name, value) = part.attr(i);
+        put_attr(sink, name, value)?;
     }
     Ok(())
 }
 
-fn put_start<K: Sink>(sink: &mut K, element: &Element) -> Result<(), Failed>
+fn put_start<K: Sink>(sink: &mut K, part: View<'_>) -> Result<(), Failed>
     ensures puts { Puts K.taken K.number result sink.old sink.new
-        (codes "<" ++ (element.now.name ++ flat_map attr_text element.now.attrs)) }
+        (codes "<" ++ ((element_of part.entry).name ++ flat_map attr_text (element_of part.entry).attrs)) }
     ensures cause { HasCause (K.faults sink.old) (K.faults sink.new) result }
     ensures counted { CountsFault (K.faults sink.old) (K.faults sink.new) result }
 {
-    put_name(sink, "<", element.name.as_str(), "")?;
-    put_attrs(sink, element.attrs.as_slice())
+    put_name(sink, "<", part.name(), "")?;
+    put_attrs(sink, part)
 }
 
 /// Writes an element. The recursion goes by the depth of the elements, which is at most 256.
 #[cycle(put)]
-fn put_element<K: Sink>(sink: &mut K, element: &Element) -> Result<(), Failed>
-    ensures puts { Puts K.taken K.number result sink.old sink.new (element_text element.now) }
+fn put_element<K: Sink>(sink: &mut K, part: View<'_>) -> Result<(), Failed>
+    ensures puts { Puts K.taken K.number result sink.old sink.new (element_text (element_of part.entry)) }
     ensures cause { HasCause (K.faults sink.old) (K.faults sink.new) result }
     ensures counted { CountsFault (K.faults sink.old) (K.faults sink.new) result }
 {
-    put_start(sink, element)?;
-    if element.kids.is_empty() {
+    put_start(sink, part)?;
+    if part.is_empty() {
         return put_text(sink, "/>");
     }
     put_text(sink, ">")?;
-    put_kids(sink, element.kids.as_slice())?;
-    put_name(sink, "</", element.name.as_str(), ">")
+    put_kids(sink, part)?;
+    put_name(sink, "</", part.name(), ">")
 }
 
 #[cycle(put)]
-fn put_kids<K: Sink>(sink: &mut K, kids: &[Child]) -> Result<(), Failed>
-    ensures puts { Puts K.taken K.number result sink.old sink.new (flat_map child_text kids.now) }
+fn put_kids<K: Sink>(sink: &mut K, part: View<'_>) -> Result<(), Failed>
+    ensures puts { Puts K.taken K.number result sink.old sink.new (flat_map child_text (element_of part.entry).kids) }
     ensures cause { HasCause (K.faults sink.old) (K.faults sink.new) result }
     ensures counted { CountsFault (K.faults sink.old) (K.faults sink.new) result }
 {
-    for kid in kids {
-        put_child(sink, kid)?;
+    for i in 0..part.kid_count() {
+        put_child(sink, part.kid(i))?;
     }
     Ok(())
 }
 
 #[cycle(put)]
-fn put_child<K: Sink>(sink: &mut K, kid: &Child) -> Result<(), Failed>
-    ensures puts { Puts K.taken K.number result sink.old sink.new (child_text kid.now) }
+fn put_child<K: Sink>(sink: &mut K, kid: Kid<'_>) -> Result<(), Failed>
+    ensures puts { Puts K.taken K.number result sink.old sink.new (child_text (child_of kid.entry)) }
     ensures cause { HasCause (K.faults sink.old) (K.faults sink.new) result }
     ensures counted { CountsFault (K.faults sink.old) (K.faults sink.new) result }
 {
     match kid {
-        Child::Element(element) => put_element(sink, element),
-        Child::Text(text) => put_escaped(sink, Place::Content, text.as_str()),
+        Kid::Element(part) => put_element(sink, part),
+        Kid::Text(text) => put_escaped(sink, Place::Content, text),
     }
 }
 
@@ -166,7 +169,7 @@ pub fn put_tree<K: Sink>(tree: &Tree, sink: &mut K) -> Result<(), Failed>
     ensures counted { CountsFault (K.faults sink.old) (K.faults sink.new) result }
 {
     put_text(sink, "<?xml version=\"1.0\" encoding=\"UTF-8\"?>\n")?;
-    put_element(sink, tree.element())?;
+    put_element(sink, tree.root())?;
     put_text(sink, "\n")
 }
 

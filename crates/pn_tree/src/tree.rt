@@ -1,13 +1,18 @@
-use crate::{Element, View};
+use crate::View;
+use crate::store::Store;
 use std::marker::Model;
 
 /// An element tree (XML 1.0, 3), whose names, characters and depth are those of this project's
 /// profile. Contracts see it as its root.
 ///
-/// A tree is dropped by a recursion over the depth of its elements, which is at most 256.
+/// A tree is four flat tables: the bytes of its names and texts, its attributes, its kids and its
+/// elements. Besides the bytes an element takes 32 bytes and an attribute 16, and each kid 12; while it
+/// is built a table may have room for twice as much, and the kids stand twice. Dropping a tree is one
+/// call a table.
 #[derive(Debug, Drop)]
 pub struct Tree {
-    root: Element,
+    store: Store,
+    root: u32,
 }
 
 impl Model for Tree {
@@ -19,25 +24,28 @@ impl Model for Tree {
 
     ghost coded = { Prim.hlevel (codes, e.the_row.coded) };
 
-    ghost use Rattle.pn_tree.specs.Elements.{IsTree};
+    ghost use Rattle.pn_tree.specs.Tables.{element_in};
+    ghost use Rattle.pn_tree.specs.Frames.{IsRoot};
 
-    ghost view = { λ t. t.root };
+    ghost view = { λ t. element_in 256 t.store t.root };
 
-    ghost invariant = { λ t. IsTree t.root };
+    ghost invariant = { λ t. IsRoot t.store t.root };
 }
 
 impl Tree {
     ghost use Rattle.std.specs.Prelude.{◌≡◌, ◌≤◌};
     ghost use Rattle.pn_tree.specs.Depth.{depth_of};
     ghost use Rattle.pn_tree.specs.Elements.{IsTree};
+    ghost use Rattle.pn_tree.specs.Tables.{element_in};
+    ghost use Rattle.pn_tree.specs.Frames.{IsRoot};
     ghost use Rattle.pn_tree.specs.Views.{element_of};
 
     /// The tree of a root.
-    pub(crate) fn new(root: Element) -> Tree
-        requires { IsTree root }
-        ensures { result ≡ root }
+    pub(crate) fn new(store: Store, root: u32) -> Tree
+        requires { IsRoot store root }
+        ensures { result ≡ element_in 256 store root }
     {
-        Tree { root }
+        Tree { store, root }
     }
 
     /// The root.
@@ -46,13 +54,6 @@ impl Tree {
         ensures is_tree { IsTree (element_of result) }
         ensures depth { depth_of (element_of result) ≤ 256 }
     {
-        View::new(&self.root)
-    }
-
-    /// The root as it is kept.
-    pub(crate) fn element(&self) -> &Element
-        ensures { result.now ≡ self.now }
-    {
-        &self.root
+        View::new(&self.store, self.root)
     }
 }

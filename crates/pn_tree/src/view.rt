@@ -1,14 +1,17 @@
-ghost use Rattle.pn_tree.specs.Elements.{IsTree};
+ghost use Rattle.pn_tree.specs.Frames.{IsRoot};
 
 use crate::copy::copy_element;
-use crate::{Child, Element, Tree};
+use crate::store::Store;
+use crate::tables::{Node, Slot};
+use crate::{Builder, Tree};
 use std::alloc::{AllocError, Global};
 
 /// One element of a tree. Clauses name it by the definition `element_of`.
 #[derive(Clone, Copy)]
 pub struct View<'a> {
-    element: &'a Element,
-    ghost is_tree: { IsTree element.now },
+    store: &'a Store,
+    node: u32,
+    ghost is_tree: { IsRoot store.now node },
 }
 
 /// What stands in an element: an element or a text.
@@ -19,38 +22,48 @@ pub enum Kid<'a> {
 }
 
 impl<'a> View<'a> {
-    ghost use Rattle.std.specs.Prelude.{◌≡◌, ◌<◌, length, slice_get, IfOk, Some};
+    ghost use Rattle.std.specs.Prelude.{◌≡◌, ◌<◌, ◌↔◌, [], length, IsTrue, slice_get, IfOk, Some};
     ghost use Rattle.std.specs.Option.{option_map};
     ghost use Rattle.pn_tree.specs.Elements.{IsTree, attr_value};
     ghost use Rattle.pn_tree.specs.Depth.{depth_of};
+    ghost use Rattle.pn_tree.specs.Tables.{made_of, element_in, IsNodeIn};
     ghost use Rattle.pn_tree.specs.Views.{element_of, child_of, IsShallower};
 
-    /// A view of the root of a tree.
-    pub(crate) fn new(element: &'a Element) -> View<'a>
-        requires { IsTree element.now }
-        ensures { element_of result ≡ element.entry.now }
+    /// A view of the element of a node.
+    pub(crate) fn new(store: &'a Store, node: u32) -> View<'a>
+        requires { IsRoot store.now node }
+        ensures { element_of result ≡ element_in 256 store.entry.now node }
     {
-        View { element }
+        View { store, node }
+    }
+
+    /// The element's node.
+    fn own_node(self) -> Node
+        ensures made { element_of self.entry
+            ≡ made_of (element_in 255 self.entry.store.now) self.entry.store.now self.entry.store.now.kids result }
+        ensures within { IsNodeIn self.entry.store.now result }
+    {
+        self.store.node(self.node)
     }
 
     /// The element's name.
     pub fn name(self) -> &'a str
         ensures { result.now ≡ (element_of self.entry).name }
     {
-        self.element.name.as_str()
+        self.store.text(self.own_node().name)
     }
 
     /// The offset of the element's start tag.
     pub fn at(self) -> u64
         ensures { result ≡ (element_of self.entry).at }
     {
-        self.element.at
+        self.own_node().at
     }
 
     pub fn attr_count(self) -> usize
         ensures { result ≡ length (element_of self.entry).attrs }
     {
-        self.element.attrs.len()
+        self.own_node().attrs.len()
     }
 
     /// The name and the value of the attribute at this place.
@@ -59,17 +72,18 @@ impl<'a> View<'a> {
         ensures { slice_get (element_of self.entry).attrs i
             ≡ Some (record { name = result.0.now; value = result.1.now }) }
     {
-        let attr = &self.element.attrs.as_slice()[i];
-        (attr.name.as_str(), attr.value.as_str())
+        let pair = self.store.pair(self.own_node().attrs.place(i));
+        (self.store.text(pair.name), self.store.text(pair.value))
     }
 
     /// The value of the attribute of this name.
     pub fn find_attr(self, name: &str) -> Option<&'a str>
         ensures { option_map (λ v. v.now) result ≡ attr_value name.now (element_of self.entry).attrs }
     {
-        for attr in self.element.attrs.as_slice() {
-            if attr.name.as_str() == name {
-                return Some(attr.value.as_str());
+        for i in 0..self.attr_count() {
+            let (own_name, value) = self.attr(i);
+            if own_name == name {
+                return Some(value);
             }
         }
         None
@@ -78,7 +92,13 @@ impl<'a> View<'a> {
     pub fn kid_count(self) -> usize
         ensures { result ≡ length (element_of self.entry).kids }
     {
-        self.element.kids.len()
+        self.own_node().kids.len()
+    }
+
+    pub(crate) fn is_empty(self) -> bool
+        ensures { IsTrue result ↔ ((element_of self.entry).kids ≡ []) }
+    {
+        self.kid_count() == 0
     }
 
     /// The kid at this place.
@@ -87,9 +107,10 @@ impl<'a> View<'a> {
         ensures kid { slice_get (element_of self.entry).kids i ≡ Some (child_of result) }
         ensures depth { IsShallower result (depth_of (element_of self.entry)) }
     {
-        match &self.element.kids.as_slice()[i] {
-            Child::Element(element) => Kid::Element(View { element }),
-            Child::Text(text) => Kid::Text(text.as_str()),
+        let store = self.store;
+        match store.slot(self.own_node().kids.place(i)) {
+            Slot::Element(node) => Kid::Element(View { store, node }),
+            Slot::Text(span) => Kid::Text(store.text(span)),
         }
     }
 
@@ -97,14 +118,8 @@ impl<'a> View<'a> {
     pub fn copy(self, alloc: Global) -> Result<Tree, AllocError>
         ensures { IfOk result (λ t. t ≡ element_of self.entry) }
     {
-        let element = copy_element(alloc, self.element)?;
-        Ok(Tree::new(element))
-    }
-
-    /// The same element, in memory of its own.
-    pub(crate) fn copy_element(self, alloc: Global) -> Result<Element, AllocError>
-        ensures { IfOk result (λ e. e ≡ element_of self.entry) }
-    {
-        copy_element(alloc, self.element)
+        let mut builder = Builder::new(alloc);
+        copy_element(&mut builder, self)?;
+        Ok(builder.finish())
     }
 }

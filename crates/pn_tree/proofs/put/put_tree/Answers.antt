@@ -11,11 +11,11 @@ returns-in_err-put_text-clause-puts g c =
 pub returns-in_err-put_element-clause-puts : goal.returns-in_err-put_element-clause-puts
 returns-in_err-put_element-clause-puts g c =
     let r = c.from_residual-in_err-put_element.result in
-    puts_as _ _ _ _ r (ap (λ e. declaration ++ (element_text e ++ 10 ∷ [])) c.element.ensures)
+    puts_as _ _ _ _ r (ap (λ e. declaration ++ (element_text e ++ 10 ∷ [])) c.root.ensures.root)
     (puts_then _ _ _ _ _ r c.in_ok-put_text.ensures.puts.all (puts_stop _ _ _ _ (10 ∷ []) r c.from_residual-in_err-put_element.ensures.0 c.in_err-put_element.ensures.puts.front))
 
 pub returns-clause-puts : goal.returns-clause-puts
 returns-clause-puts g c =
     let r = c.put_text-2.result in
-    puts_as _ _ _ _ r (ap (λ e. declaration ++ (element_text e ++ 10 ∷ [])) c.element.ensures)
+    puts_as _ _ _ _ r (ap (λ e. declaration ++ (element_text e ++ 10 ∷ [])) c.root.ensures.root)
     (puts_then _ _ _ _ _ r c.in_ok-put_text.ensures.puts.all (puts_then _ _ _ _ _ r c.in_ok-put_element.ensures.puts.all c.put_text-2.ensures.puts))
