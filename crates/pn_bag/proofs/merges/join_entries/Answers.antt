@@ -18,10 +18,18 @@ returns-then-sum_passes-clause-too_large g c =
 
 pub returns-in_default-clause-too_large : goal.returns-in_default-clause-too_large
 returns-in_default-clause-too_large g c =
-    let fits : (key : g.row.K.Denot) → count_of g.K.Ord.cmp c.args.entries.now.items key + count_of g.K.Ord.cmp c.args.other.items key ≤ MAX_COUNT = search rules in
+    let fits : (key : g.row.K.Denot) → count_of g.K.Ord.cmp c.args.entries.now.items key + count_of g.K.Ord.cmp c.args.other.items key ≤ MAX_COUNT =
+    subst (λ own. (key : g.row.K.Denot) → count_of g.K.Ord.cmp own key + count_of g.K.Ord.cmp c.args.other.items key ≤ MAX_COUNT) c.deref.ensures.value (
+    subst (λ other. (key : g.row.K.Denot) → count_of g.K.Ord.cmp c.deref.result.now key + count_of g.K.Ord.cmp other key ≤ MAX_COUNT) c.deref-2.ensures.value (
+    c.sum_passes.ensures.fits c.if-sum_passes.false))
+    in
     (λ is. absurd cc, λ large. absurd (omega (arith, fits large.0, large.1)))
 
 pub returns-clause-too_large : goal.returns-clause-too_large
 returns-clause-too_large g c =
-    let fits : (key : g.row.K.Denot) → count_of g.K.Ord.cmp c.args.entries.now.items key + count_of g.K.Ord.cmp c.args.other.items key ≤ MAX_COUNT = search rules in
+    let fits : (key : g.row.K.Denot) → count_of g.K.Ord.cmp c.args.entries.now.items key + count_of g.K.Ord.cmp c.args.other.items key ≤ MAX_COUNT =
+    subst (λ own. (key : g.row.K.Denot) → count_of g.K.Ord.cmp own key + count_of g.K.Ord.cmp c.args.other.items key ≤ MAX_COUNT) c.deref.ensures.value (
+    subst (λ other. (key : g.row.K.Denot) → count_of g.K.Ord.cmp c.deref.result.now key + count_of g.K.Ord.cmp other key ≤ MAX_COUNT) c.deref-2.ensures.value (
+    c.sum_passes.ensures.fits c.if-sum_passes.false))
+    in
     (λ is. absurd cc, λ large. absurd (omega (arith, fits large.0, large.1)))
