@@ -1,9 +1,13 @@
-use Rattle.std.proofs.Common.{◌+◌, ◌<◌, ◌≤◌, refl, sym, subst, rules, arith}
+use Rattle.std.proofs.Common.{◌≡◌, ◌+◌, ◌<◌, ◌≤◌, refl, sym, subst, rules, arith}
 use Rattle.pn_bag.specs.declared.TheConstants.{MAX_COUNT}
+use Rattle.pn_bag.specs.Algebra.{joined}
 use Rattle.pn_bag.specs.Bag.{IsBag}
 use Rattle.pn_bag.specs.Counts.{count_of}
 use Rattle.pn_bag.proofs.Joining.{bag_joined}
 use Rattle.pn_bag.proofs.merges.join_entries.Goals as goal
+
+pub returns-clause-entries : goal.returns-clause-entries
+returns-clause-entries g c = subst (λ own. c.merge.result.items ≡ joined g.K.Ord.cmp own.items c.args.other.items) c.replace-own.ensures.value c.merge.ensures
 
 pub returns-clause-bag : goal.returns-clause-bag
 returns-clause-bag g c =
