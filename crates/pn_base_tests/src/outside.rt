@@ -134,15 +134,24 @@ fn small_sink(alloc: Global) -> Result<MemorySink, Fail> {
     Ok(MemorySink::new(alloc, 5, failing)?)
 }
 
+/// What has room is taken, around a write that fails.
+fn takes_what_has_room(rt: &impl Abort, sink: &mut MemorySink) {
+    assert!(rt; put_all(sink, b"abc") == Ok(()));
+    assert!(rt; sink.write(b"de") == Err(Failed));
+    assert!(rt; put_all(sink, b"defg") == Err(Failed));
+}
+
+fn keeps_what_was_taken(rt: &impl Abort, sink: &mut MemorySink) {
+    assert!(rt; sink.write(b"") == Ok(0));
+    assert!(rt; sink.done() == Ok(()));
+    assert!(rt; sink.bytes() == b"abcde".as_slice());
+}
+
 #[test]
 fn sinks_keep_what_was_taken(rt: HostRuntime) -> Result<(), Fail> {
     let mut sink = small_sink(rt.alloc())?;
-    assert_eq!(rt; put_all(&mut sink, b"abc"), Ok(()));
-    assert_eq!(rt; sink.write(b"de"), Err(Failed));
-    assert_eq!(rt; put_all(&mut sink, b"defg"), Err(Failed));
-    assert_eq!(rt; sink.write(b""), Ok(0));
-    assert_eq!(rt; sink.done(), Ok(()));
-    assert_eq!(rt; sink.bytes(), b"abcde".as_slice());
+    takes_what_has_room(&rt, &mut sink);
+    keeps_what_was_taken(&rt, &mut sink);
     Ok(())
 }
 

@@ -26,16 +26,32 @@ fn document(alloc: Global, root: &str) -> Result<String, AllocError> {
 fn is_written(rt: &impl Abort, alloc: Global, tree: &Tree, want: &str) -> Result<(), Fail> {
     has_text(rt, alloc, tree, want)?;
     let copied = tree.root().copy(alloc)?;
-    assert_eq!(rt; copied.root().at(), tree.root().at());
-    has_text(rt, alloc, &copied, want)
+    is_the_same(rt, alloc, tree, &copied, want)
+}
+
+/// A copy begins where its tree does, and has this text.
+fn is_the_same(
+    rt: &impl Abort,
+    alloc: Global,
+    tree: &Tree,
+    copied: &Tree,
+    want: &str,
+) -> Result<(), Fail> {
+    assert!(rt; copied.root().at() == tree.root().at());
+    has_text(rt, alloc, copied, want)
 }
 
 fn has_text(rt: &impl Abort, alloc: Global, tree: &Tree, want: &str) -> Result<(), Fail> {
     let mut sink = MemorySink::new(alloc, want.len(), Vec::new(alloc))?;
-    assert!(rt; put_tree(tree, &mut sink).is_ok(), "{want}");
-    assert_eq!(rt; sink.bytes(), want.as_bytes());
-    assert_eq!(rt; text_length(tree), want.len() as u64);
+    puts(rt, tree, &mut sink, want);
     Ok(())
+}
+
+/// The sink is put this text of a tree.
+fn puts(rt: &impl Abort, tree: &Tree, sink: &mut MemorySink, want: &str) {
+    assert!(rt; put_tree(tree, sink).is_ok(), "{want}");
+    assert!(rt; sink.bytes() == want.as_bytes());
+    assert!(rt; text_length(tree) == want.len() as u64);
 }
 
 fn build_empty(builder: &mut Builder) -> Result<(), AllocError>

@@ -1,4 +1,4 @@
-use Rattle.std.proofs.Common.{◌/◌, ◌*◌, ◌<◌, ◌≤◌, refl, subst, sym, ◌∙◌, arith}
+use Rattle.std.proofs.Common.{◌/◌, ◌<◌, ◌≤◌, refl, subst, sym, ◌∙◌, arith}
 use Rattle.std.proofs.lemmas.Bool.{false≢true}
 use Rattle.pn_bag.specs.declared.TheConstants.{MAX_COUNT}
 use Rattle.pn_bag.specs.Bag.{IsBag}
