@@ -1,5 +1,5 @@
 -- What stays where entries of count 0 are dropped, and where each count is multiplied.
-use Rattle.std.proofs.Common.{◌≡◌, ℕ, zero, suc, ◌+◌, ◌*◌, ◌/◌, ◌<◌, ◌≤◌, Bool, true, false, cond, nat_lt, List, [], ◌∷◌, ◌++◌, length, get_or, set, take, drop, map, refl, sym, ap, ◌∙◌, subst, arith}
+use Rattle.std.proofs.Common.{◌≡◌, ◌↔◌, ℕ, zero, suc, ◌+◌, ◌*◌, ◌/◌, ◌<◌, ◌≤◌, Bool, true, false, cond, nat_lt, List, [], ◌∷◌, ◌++◌, length, get_or, set, take, drop, map, refl, sym, ap, ◌∙◌, subst, arith}
 use Rattle.std.specs.List.{filter}
 use Rattle.std.specs.Ordering.{match_ordering}
 use Rattle.std.specs.declared.cmp.Ordering.{Ordering}
@@ -62,6 +62,10 @@ multiplied n xs = map (λ e. (e.0, e.1 * n)) xs
 -- a count that is within a quotient, multiplied, is within what was divided
 within_quotient : (most by n : ℕ) → 0 < by → n ≤ most / by → by * n ≤ most
 within_quotient most by n some within = grind (arith, Rattle.std.proofs.Math.Nat.mul-le-mul_left by within)
+
+-- a count is past a quotient where it is, multiplied, past what was divided
+pub above_quotient : (most by n : ℕ) → 0 < by → (most / by < n) ↔ (most < by * n)
+above_quotient most by n some = subst (λ m. (most / by < n) ↔ (most < m)) {x = n * by} (grind arith) (Rattle.std.proofs.Math.Nat.div-lt_iff_lt-mul some)
 
 pub product_some : (by n : ℕ) → 0 < by → 0 < n → 0 < by * n
 product_some by n a b = grind (arith, Rattle.std.proofs.Math.Nat.mul-le-mul_left by b)

@@ -1,5 +1,5 @@
 -- One walk over two lists whose keys rise: what is known at each step and at the end.
-use Rattle.std.proofs.Common.{◌≡◌, ℕ, suc, ◌+◌, ◌<◌, ◌≤◌, List, length, get_or, take, drop, sym, ap, ◌∙◌, subst, arith}
+use Rattle.std.proofs.Common.{◌≡◌, ℕ, true, false, Option, Some, IsNone, is_some, suc, ◌+◌, ◌<◌, ◌≤◌, List, length, get_or, take, drop, sym, ap, ◌∙◌, subst, arith}
 use Rattle.std.specs.Cmp.{IsTotalOrder}
 use Rattle.std.specs.declared.cmp.Ordering.{Ordering}
 use Rattle.std.specs.declared.cmp.Ordering.TheVariants.{Equal}
@@ -64,3 +64,7 @@ count_of_read_more cmp n xs x key within read =
 -- all that was taken, once nothing is left
 pub every_taken : {X : Type 0} (P : X → Type 0) (n : ℕ) (xs : List X) → length xs ≤ n → Every P (take n xs) → Every P xs
 every_taken P n xs done all = subst (Every P) (take_all n xs done) all
+
+-- what was found is not nothing
+pub found_is_some : {X : Type 0} (found : Option X) (x : X) → found ≡ Some x → IsNone found → ⊥
+found_is_some found x is none = let clash : true ≡ false = ap is_some (sym is) ∙ none in cc

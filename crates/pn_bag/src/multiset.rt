@@ -66,7 +66,7 @@ impl<K: Ord + Drop> Bag<K> {
     pub fn includes(&self, other: &Bag<K>) -> bool
         ensures { IsTrue result ↔ Includes K.cmp self.now other.now }
     {
-        find_short(&self.entries, &other.entries).is_none()
+        self.first_short(other).is_none()
     }
 
     /// The sum of all counts. It takes no memory.

@@ -53,9 +53,9 @@ fn refuses_two(rt: &impl Abort, alloc: Global, bag: &mut Bag<Letter>) -> Result<
         need: 2,
         has: 1,
     };
-    assert_eq!(rt; bag.less(&two), Err(short));
+    assert!(rt; bag.less(&two) == Err(short));
     assert!(rt; has_letters(bag, 2, 1));
-    assert_eq!(rt; bag.cardinality(), 3);
+    assert!(rt; bag.cardinality() == 3);
     Ok(())
 }
 
@@ -301,7 +301,7 @@ fn image_steps()
 
 fn is_listed(rt: &impl Abort, alloc: Global, bag: &Bag<u64>) -> Result<(), Fail> {
     let list = listed(alloc, bag)?;
-    assert_eq!(rt; list.as_slice(), [(1, 7), (5, 2)].as_slice());
+    assert!(rt; list.as_slice() == [(1, 7), (5, 2)].as_slice());
     Ok(())
 }
 

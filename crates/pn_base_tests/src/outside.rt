@@ -72,15 +72,24 @@ fn a_failing_reader_is_a_fault_once(rt: HostRuntime) {
     reads(&rt, &mut source, &[Ok(1), Err(Failed), Ok(1)]);
 }
 
+/// A write takes two bytes, the next none, and the next fails; so does `done`.
+fn writes_fail(rt: &impl Abort, sink: &mut StdSink<Flaky>) {
+    assert!(rt; sink.write(b"abc") == Ok(2));
+    assert!(rt; sink.write(b"c") == Err(Failed), "nothing taken");
+    assert!(rt; sink.write(b"c") == Err(Failed));
+    assert!(rt; sink.done() == Err(Failed));
+}
+
+fn writes_again(rt: &impl Abort, sink: &mut StdSink<Flaky>) {
+    assert!(rt; put_all(sink, b"cdefg") == Ok(()));
+    assert!(rt; sink.done() == Ok(()));
+}
+
 #[test]
 fn a_failing_writer_is_a_fault_each_time(rt: HostRuntime) {
     let mut sink = StdSink::new(make_flaky());
-    assert_eq!(rt; sink.write(b"abc"), Ok(2));
-    assert_eq!(rt; sink.write(b"c"), Err(Failed), "nothing taken");
-    assert_eq!(rt; sink.write(b"c"), Err(Failed));
-    assert_eq!(rt; sink.done(), Err(Failed));
-    assert_eq!(rt; put_all(&mut sink, b"cdefg"), Ok(()));
-    assert_eq!(rt; sink.done(), Ok(()));
+    writes_fail(&rt, &mut sink);
+    writes_again(&rt, &mut sink);
 }
 
 /// The next calls of `done` answer this, one after the other.
@@ -134,22 +143,31 @@ fn small_sink(alloc: Global) -> Result<MemorySink, Fail> {
     Ok(MemorySink::new(alloc, 5, failing)?)
 }
 
+/// What has room is taken, around a write that fails.
+fn takes_what_has_room(rt: &impl Abort, sink: &mut MemorySink) {
+    assert!(rt; put_all(sink, b"abc") == Ok(()));
+    assert!(rt; sink.write(b"de") == Err(Failed));
+    assert!(rt; put_all(sink, b"defg") == Err(Failed));
+}
+
+fn keeps_what_was_taken(rt: &impl Abort, sink: &mut MemorySink) {
+    assert!(rt; sink.write(b"") == Ok(0));
+    assert!(rt; sink.done() == Ok(()));
+    assert!(rt; sink.bytes() == b"abcde".as_slice());
+}
+
 #[test]
 fn sinks_keep_what_was_taken(rt: HostRuntime) -> Result<(), Fail> {
     let mut sink = small_sink(rt.alloc())?;
-    assert_eq!(rt; put_all(&mut sink, b"abc"), Ok(()));
-    assert_eq!(rt; sink.write(b"de"), Err(Failed));
-    assert_eq!(rt; put_all(&mut sink, b"defg"), Err(Failed));
-    assert_eq!(rt; sink.write(b""), Ok(0));
-    assert_eq!(rt; sink.done(), Ok(()));
-    assert_eq!(rt; sink.bytes(), b"abcde".as_slice());
+    takes_what_has_room(&rt, &mut sink);
+    keeps_what_was_taken(&rt, &mut sink);
     Ok(())
 }
 
 #[test]
 fn a_count_is_kept(rt: HostRuntime) {
     let mut count = CountSink::new();
-    assert_eq!(rt; put_all(&mut count, b"abc"), Ok(()));
-    assert_eq!(rt; put_all(&mut count, b"de"), Ok(()));
-    assert_eq!(rt; count.count(), 5);
+    assert!(rt; put_all(&mut count, b"abc") == Ok(()));
+    assert!(rt; put_all(&mut count, b"de") == Ok(()));
+    assert!(rt; count.count() == 5);
 }

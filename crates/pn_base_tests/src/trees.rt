@@ -26,16 +26,32 @@ fn document(alloc: Global, root: &str) -> Result<String, AllocError> {
 fn is_written(rt: &impl Abort, alloc: Global, tree: &Tree, want: &str) -> Result<(), Fail> {
     has_text(rt, alloc, tree, want)?;
     let copied = tree.root().copy(alloc)?;
-    assert_eq!(rt; copied.root().at(), tree.root().at());
-    has_text(rt, alloc, &copied, want)
+    is_the_same(rt, alloc, tree, &copied, want)
+}
+
+/// A copy begins where its tree does, and has this text.
+fn is_the_same(
+    rt: &impl Abort,
+    alloc: Global,
+    tree: &Tree,
+    copied: &Tree,
+    want: &str,
+) -> Result<(), Fail> {
+    assert!(rt; copied.root().at() == tree.root().at());
+    has_text(rt, alloc, copied, want)
 }
 
 fn has_text(rt: &impl Abort, alloc: Global, tree: &Tree, want: &str) -> Result<(), Fail> {
     let mut sink = MemorySink::new(alloc, want.len(), Vec::new(alloc))?;
-    assert!(rt; put_tree(tree, &mut sink).is_ok(), "{want}");
-    assert_eq!(rt; sink.bytes(), want.as_bytes());
-    assert_eq!(rt; text_length(tree), want.len() as u64);
+    puts(rt, tree, &mut sink, want);
     Ok(())
+}
+
+/// The sink is put this text of a tree.
+fn puts(rt: &impl Abort, tree: &Tree, sink: &mut MemorySink, want: &str) {
+    assert!(rt; put_tree(tree, sink).is_ok(), "{want}");
+    assert!(rt; sink.bytes() == want.as_bytes());
+    assert!(rt; text_length(tree) == want.len() as u64);
 }
 
 fn build_empty(builder: &mut Builder) -> Result<(), AllocError>
@@ -194,20 +210,20 @@ fn placed(alloc: Global, part: View<'_>) -> Result<Tree, AllocError>
 }
 
 fn shows_names(rt: &impl Abort, root: View<'_>) {
-    assert_eq!(rt; root.name(), "a");
-    assert_eq!(rt; root.at(), 4);
+    assert!(rt; root.name() == "a");
+    assert!(rt; root.at() == 4);
 }
 
 fn shows_attrs(rt: &impl Abort, root: View<'_>) {
-    assert_eq!(rt; root.attr_count(), 2);
+    assert!(rt; root.attr_count() == 2);
     let (name, value) = root.attr(1);
-    assert_eq!(rt; name, "two");
-    assert_eq!(rt; value, "2");
+    assert!(rt; name == "two");
+    assert!(rt; value == "2");
 }
 
 fn finds_attrs(rt: &impl Abort, root: View<'_>) {
-    assert_eq!(rt; root.find_attr("two"), Some("2"));
-    assert_eq!(rt; root.find_attr("three"), None);
+    assert!(rt; root.find_attr("two") == Some("2"));
+    assert!(rt; root.find_attr("three").is_none());
 }
 
 fn shows_text(rt: &impl Abort, kid: Kid<'_>) {

@@ -104,17 +104,6 @@ number_added b name n fits some =
     ap (λ (e : Element). ended (ended (record b { open_elements = e ∷ made name [] [] ∷ b.open_elements }))) (only_text (codes "text") (decimal n) (decimal_nonempty n fits))
     ∙ ended_inside b (number_tree name n) some
 
--- the innermost element is changed, and changed again
-changed_twice : (f g : Element → Element) (root : Option Element) (es : List Element)
-    → at_innermost f (at_innermost g (record { root = root; open_elements = es })) ≡ at_innermost (λ e. f (g e)) (record { root = root; open_elements = es })
-changed_twice f g root [] = refl
-changed_twice f g root (e ∷ es) = refl
-
-changed_alike : (f g : Element → Element) → ((e : Element) → f e ≡ g e) → (root : Option Element) (es : List Element)
-    → at_innermost f (record { root = root; open_elements = es }) ≡ at_innermost g (record { root = root; open_elements = es })
-changed_alike f g same root [] = refl
-changed_alike f g same root (e ∷ es) = ap (λ (v : Element). record { root = root; open_elements = v ∷ es }) (same e)
-
 unchanged : (f : Element → Element) → ((e : Element) → f e ≡ e) → (root : Option Element) (es : List Element)
     → at_innermost f (record { root = root; open_elements = es }) ≡ record { root = root; open_elements = es }
 unchanged f same root [] = refl

@@ -22,7 +22,7 @@ use pn_tree::Tree;
 use std::alloc::{AllocError, Global};
 
 /// The answer that is due, before it is written: a line on the standard error, or an output.
-#[derive(Debug, Drop)]
+#[derive(Drop)]
 pub(crate) enum Due {
     Line(Line),
     Output(Output),
@@ -65,6 +65,19 @@ fn scanned_due(alloc: Global, asked: Asked, scanned: &Scanned) -> Result<Due, Al
     }
 }
 
+/// What is due for a command and an input that was read, or that memory was wanted.
+fn due_or_stop(alloc: Global, asked: Asked, scanned: &Scanned) -> Result<Due, Stop>
+    ensures due { IfOk result (λ d. (bytes : List ℕ) → IsScanned bytes scanned.now → IsDueFor asked bytes d) }
+    ensures whole { IfOk result (λ d. (answer_of d).status ≡ Status.Done → IsReadToEnd scanned.now) }
+    ensures asked { IfOk result (λ d. (answer_of d).status ≢ Status.Usage) }
+    ensures no_fault { result ≢ Err Stop.Fault }
+{
+    match scanned_due(alloc, asked, scanned) {
+        Ok(due) => Ok(due),
+        Err(_) => Err(Stop::Memory),
+    }
+}
+
 /// What is due for these words, once the input that they want is read.
 pub(crate) fn decide<S: Source>(
     alloc: Global,
@@ -85,8 +98,5 @@ pub(crate) fn decide<S: Source>(
         return Ok(Due::Line(Line::Usage));
     };
     let scanned = scan_all(alloc, source)?;
-    match scanned_due(alloc, asked, &scanned) {
-        Ok(due) => Ok(due),
-        Err(_) => Err(Stop::Memory),
-    }
+    due_or_stop(alloc, asked, &scanned)
 }

@@ -13,14 +13,14 @@ use pn_tree::Tree;
 use std::alloc::Global;
 
 /// Why there is nothing to answer.
-#[derive(Clone, Copy, Debug, PartialEq, Eq)]
+#[derive(Clone, Copy)]
 pub(crate) enum Stop {
     Fault,
     Memory,
 }
 
 /// What an input is, by its markup.
-#[derive(Debug, Drop)]
+#[derive(Drop)]
 pub(crate) enum Scanned {
     Document(Tree),
     Broken(u64),
@@ -28,7 +28,7 @@ pub(crate) enum Scanned {
 }
 
 /// Why an input is not read to its end.
-#[derive(Debug, Drop)]
+#[derive(Drop)]
 enum Halt {
     Source,
     Scanner(ScanFault),

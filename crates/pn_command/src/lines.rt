@@ -16,7 +16,7 @@ const USAGE: &str =
     "pnml: usage: check, flatten, step MODE (one or more), modes T, unfold, trial N\n";
 
 /// A limit that is passed.
-#[derive(Debug, Drop)]
+#[derive(Drop)]
 pub(crate) enum Limit {
     /// The input is too long.
     Input,
@@ -25,7 +25,7 @@ pub(crate) enum Limit {
 }
 
 /// Why the input is refused.
-#[derive(Debug, Drop)]
+#[derive(Drop)]
 pub(crate) enum Refusal {
     /// It is no document, with its break.
     Broken(u64),
@@ -34,7 +34,7 @@ pub(crate) enum Refusal {
 }
 
 /// A line on the standard error.
-#[derive(Debug, Drop)]
+#[derive(Drop)]
 pub(crate) enum Line {
     /// The words ask for nothing.
     Usage,

@@ -16,7 +16,7 @@ use pn_tree::{Tree, put_tree, text_length};
 use std::alloc::{AllocError, Global};
 
 /// How many places, transitions, arcs and initial tokens a net has.
-#[derive(Clone, Copy, Debug, PartialEq, Eq)]
+#[derive(Clone, Copy)]
 pub(crate) struct Summary {
     pub(crate) places: usize,
     pub(crate) transitions: usize,
@@ -25,7 +25,7 @@ pub(crate) struct Summary {
 }
 
 /// What a command gives.
-#[derive(Debug, Drop)]
+#[derive(Drop)]
 pub(crate) enum Output {
     /// A net, summed up.
     Summary(Summary),

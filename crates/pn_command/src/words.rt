@@ -1,4 +1,4 @@
-ghost use Rattle.std.specs.Prelude.{◌≡◌, map, string_bytes};
+ghost use Rattle.std.specs.Prelude.{◌≡◌, ◌∷◌, [], map, string_bytes};
 ghost use Rattle.pn_command.specs.Words.{asked_of};
 
 /// What the words of the command line ask for.
@@ -16,8 +16,20 @@ pub fn asks(words: &[String]) -> Option<Asked>
     ensures { result ≡ asked_of (map string_bytes words.now) }
 {
     match words {
-        [word] if word.as_str() == "check" => Some(Asked::Check),
-        [word] if word.as_str() == "flatten" => Some(Asked::Flatten),
+        [word] => asked_by(word.as_str()),
         _ => None,
+    }
+}
+
+/// What this one word asks for.
+fn asked_by(word: &str) -> Option<Asked>
+    ensures { result ≡ asked_of (word.now ∷ []) }
+{
+    if word == "check" {
+        Some(Asked::Check)
+    } else if word == "flatten" {
+        Some(Asked::Flatten)
+    } else {
+        None
     }
 }

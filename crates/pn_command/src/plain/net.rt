@@ -2,7 +2,7 @@ use pn_text::Text;
 use std::marker::Model;
 
 /// What an id of a plain net names.
-#[derive(Clone, Copy, Debug, PartialEq, Eq)]
+#[derive(Clone, Copy)]
 pub(crate) enum Role {
     Net,
     Page,
@@ -12,14 +12,14 @@ pub(crate) enum Role {
 }
 
 /// A place: its id and its initial marking, where one is written.
-#[derive(Debug, Drop)]
+#[derive(Drop)]
 pub(crate) struct Place {
     pub(crate) id: Text,
     pub(crate) marking: Option<u64>,
 }
 
 /// An arc: its id, the ids of its ends, and its inscription, where one is written.
-#[derive(Debug, Drop)]
+#[derive(Drop)]
 pub(crate) struct Arc {
     pub(crate) id: Text,
     pub(crate) source: Text,
@@ -28,7 +28,7 @@ pub(crate) struct Arc {
 }
 
 /// The page: its id, and what stands on it, in order. Contracts see the contents.
-#[derive(Debug, Drop)]
+#[derive(Drop)]
 pub(crate) struct PlainPage {
     pub(crate) id: Text,
     pub(crate) places: Vec<Place>,
@@ -50,7 +50,7 @@ impl Model for PlainPage {
 }
 
 /// A plain net: its id and its page.
-#[derive(Debug, Drop)]
+#[derive(Drop)]
 pub(crate) struct PlainNet {
     pub(crate) id: Text,
     pub(crate) page: PlainPage,

@@ -1,8 +1,22 @@
 use Rattle.std.proofs.Common.{◌≤◌, ◌<◌, ◌+◌, arith}
 use Rattle.pn_bag.specs.declared.TheConstants.{MAX_COUNT}
 use Rattle.pn_bag.specs.Counts.{count_of}
-use Rattle.pn_bag.proofs.Walking.{count_of_read, walked, holds_read, every_read, every_taken, fits_by_entries, count_bound}
+use Rattle.pn_bag.proofs.Placing.{nothing_before}
+use Rattle.pn_bag.proofs.Walking.{before_next, count_of_read, walked, holds_read, every_read, every_taken, fits_by_entries, count_bound}
 use Rattle.pn_bag.proofs.reads.sum_passes.Goals as goal
+
+pub loop-position-init : goal.loop-position-init
+loop-position-init g c = record {
+  within = omega arith;
+  before = nothing_before g.met.K.Ord.total c.args.left.now c.args.right.now;
+  fitting = tt;
+}
+
+pub count_from-place-requires-clause-before : goal.count_from-place-requires-clause-before
+count_from-place-requires-clause-before g c = before_next g.met.K.Ord.total _ _ _ _ c.index-right-position.result c.loop-position-test.true c.index-right-position.is c.loop-position.invariant.before
+
+pub overflow_sub-entry : goal.overflow_sub-entry
+overflow_sub-entry g c = (holds_read (λ more. (0 < more.1) × (more.1 ≤ MAX_COUNT)) _ _ c.index-right-position.result c.loop-position-test.true c.index-right-position.is c.requires.right.counted).1
 
 -- the key of the entry passes
 pub returns-then-count-entry-clause-passes : goal.returns-then-count-entry-clause-passes

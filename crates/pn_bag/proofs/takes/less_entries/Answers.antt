@@ -1,8 +1,26 @@
-use Rattle.std.proofs.Common.{ap, ◌∙◌, ◌+◌, refl, subst, sym, rules}
+use Rattle.std.proofs.Common.{ap, ◌∙◌, ◌+◌, ◌<◌, ◌≤◌, refl, subst, sym, rules}
+use Rattle.pn_bag.specs.declared.TheConstants.{MAX_COUNT}
 use Rattle.pn_bag.specs.Bag.{IsBag}
 use Rattle.pn_bag.specs.Counts.{count_of, Includes}
+use Rattle.pn_bag.proofs.Everywhere.{every_weaker}
 use Rattle.pn_bag.proofs.Sifting.{count_of-counted, bag-counted}
+use Rattle.pn_bag.proofs.Walking.{found_is_some}
 use Rattle.pn_bag.proofs.takes.less_entries.Goals as goal
+
+pub returns-in-Some-clause-exact : goal.returns-in-Some-clause-exact
+returns-in-Some-clause-exact g c = (
+  λ done. absurd cc,
+  λ all. absurd (found_is_some _ _ c.in-Some.is (c.find_short.ensures.none.1 (subst (λ xs. Includes g.K.Ord.cmp xs c.args.other.now) (sym c.deref.ensures.value) all))),
+)
+
+pub returns-in-Some-clause-err : goal.returns-in-Some-clause-err
+returns-in-Some-clause-err g c = refl
+
+pub returns-in-Some-clause-bag : goal.returns-in-Some-clause-bag
+returns-in-Some-clause-bag g c = c.requires.entries
+
+pub take_away-requires-clause-most : goal.take_away-requires-clause-most
+take_away-requires-clause-most g c = every_weaker (λ e. (0 < e.1) × (e.1 ≤ MAX_COUNT)) (λ e. e.1 ≤ MAX_COUNT) (λ e both. both.1) _ c.requires.entries.counted
 
 pub returns-clause-counts : goal.returns-clause-counts
 returns-clause-counts g c key =

@@ -1,8 +1,18 @@
 use Rattle.std.proofs.Common.{ap, arith}
 use Rattle.std.proofs.lemmas.List.{take_all}
 use Rattle.pn_bag.specs.Counts.{count_of}
+use Rattle.pn_bag.proofs.Placing.{nothing_before}
 use Rattle.pn_bag.proofs.Walking.{before_next, walked, count_of_read, count_of_read_more, not_before}
 use Rattle.pn_bag.proofs.takes.take_away.Goals as goal
+
+pub loop-position-init : goal.loop-position-init
+loop-position-init g c = record {
+  within = omega arith;
+  before = nothing_before g.met.K.Ord.total c.args.entries.now.items c.args.other.now;
+  rising = c.requires.entries;
+  most = c.requires.most;
+  counts = λ key. omega arith;
+}
 
 -- the key's count is still there
 pub take_entry-from-requires : goal.take_entry-from-requires

@@ -1,5 +1,6 @@
 use Rattle.std.proofs.Common.{map, string_bytes, sym, ◌∙◌}
 use Rattle.std.proofs.lemmas.Option.{IfSome_then}
+use Rattle.std.proofs.lemmas.Result.{IfOk-weaker}
 use Rattle.pn_command.specs.Answer.{IsTheDue}
 use Rattle.pn_command.specs.Reading.{IsScanned}
 use Rattle.pn_command.proofs.AnswerLemmas.{due_for_words}
@@ -9,7 +10,15 @@ use Rattle.pn_command.proofs.due.decide.Goals as goal
 pub returns-in_default-clause-no_further : goal.returns-in_default-clause-no_further
 returns-in_default-clause-no_further g c = unread (g.S.Source.left c.args.source.now)
 
-pub returns-in-Ok-clause-due : goal.returns-in-Ok-clause-due
-returns-in-Ok-clause-due g c =
-    IfSome_then (g.S.Source.left c.args.source.now) {P = λ b. IsScanned b c.in_ok-scanned.scanned} {Q = λ b. IsTheDue (map string_bytes c.args.words.now) b c.in-Ok.due} c.in_ok-scanned.ensures.scanned
-    (λ b is. due_for_words (map string_bytes c.args.words.now) c.in-Some.asked b c.in-Ok.due (sym c.asks.ensures ∙ c.in-Some.is) (c.in-Ok.ensures.due b is))
+pub returns-clause-due : goal.returns-clause-due
+returns-clause-due g c =
+    IfOk-weaker c.due_or_stop.result _ _ (λ d due.
+    IfSome_then (g.S.Source.left c.args.source.now) {P = λ b. IsScanned b c.in_ok-scanned.scanned} {Q = λ b. IsTheDue (map string_bytes c.args.words.now) b d} c.in_ok-scanned.ensures.scanned
+    (λ b is. due_for_words (map string_bytes c.args.words.now) c.in-Some.asked b d (sym c.asks.ensures ∙ c.in-Some.is) (due b is)))
+    c.due_or_stop.ensures.due
+
+pub returns-clause-asked : goal.returns-clause-asked
+returns-clause-asked g c = IfOk-weaker c.due_or_stop.result _ _ (λ d other usage. absurd (other usage)) c.due_or_stop.ensures.asked
+
+pub returns-clause-ended : goal.returns-clause-ended
+returns-clause-ended g c = IfOk-weaker c.due_or_stop.result _ _ (λ d whole done. c.in_ok-scanned.ensures.end (whole done)) c.due_or_stop.ensures.whole

@@ -1,7 +1,7 @@
 use Rattle.std.proofs.Common.{◌≡◌, take, Ok}
 use Rattle.std.specs.Fn.{FnReturnsAt}
 use Rattle.pn_bag.specs.Copies.{IsCopy}
-use Rattle.pn_bag.proofs.copies.copy_entries.Given as goal
+use Rattle.pn_bag.proofs.copies.copy_into.Given as goal
 
 -- the entries so far are copied
 abbrev pub invariant-loop-entry : goal.invariant-loop-entry

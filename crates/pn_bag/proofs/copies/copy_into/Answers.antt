@@ -2,7 +2,7 @@ use Rattle.std.proofs.Common.{◌≡◌, ◌++◌, ◌∷◌, [], Ok, refl, ap, 
 use Rattle.std.specs.Fn.{FnReturnsAt}
 use Rattle.std.proofs.lemmas.Fn.{says_at}
 use Rattle.pn_bag.proofs.Copying.{copy_step, equal_step}
-use Rattle.pn_bag.proofs.copies.copy_entries.Goals as goal
+use Rattle.pn_bag.proofs.copies.copy_into.Goals as goal
 
 -- the call answered Ok of the key's copy
 pub loop-entry-preserved : goal.loop-entry-preserved
