@@ -1,0 +1,169 @@
+#!/usr/bin/env python3
+"""Times the built programs against xmllint on the same files, and prints ratios as a table.
+
+usage: bench.py [--size MIB] [--turns N] [--keep FOLDER] [FILE KIND ..]
+
+It makes a net of the given size (64 MiB) in the style of the usual tools, and files that ask for much: many elements,
+texts, attributes, references and comments, a long value, name and comment. Each program reads each file in turns, and
+the least of its user times counts. Times and peaks of memory are given as ratios to `xmllint --huge --noout`, which
+makes a tree of the same file. Where xmllint refuses a file or takes over a minute for it, the bare figure is shown.
+
+Programs: `crates/pn_count/out/pn_count` (the scanner and the tree alone) and `crates/pn_tool/out/pn_tool check`. A run
+of the gate builds both; so does `rt run` in their folders. xmllint comes with libxml2 (`apt-get install
+libxml2-utils`). This is no part of the gate.
+"""
+import argparse
+import os
+import random
+import resource
+import shutil
+import subprocess
+import sys
+import tempfile
+import time
+
+TOP = os.path.join(os.path.dirname(os.path.abspath(__file__)), '..')
+LIMIT = 67108864
+HEAD = '<?xml version="1.0" encoding="UTF-8"?>\n<pnml xmlns="http://www.pnml.org/version-2009/grammar/pnml">\n'
+PTNET = 'http://www.pnml.org/version-2009/grammar/ptnet'
+
+
+def plain_net(size, out, shuffled=False):
+    """A place/transition net of one page, about `size` bytes: a third places, a sixth transitions, the rest arcs."""
+    end = b'  </page>\n </net>\n</pnml>\n'
+    out.write((HEAD + f' <net id="n" type="{PTNET}">\n  <page id="page">\n').encode())
+    number = max(1, size // 312)
+    places = list(range(number))
+    transitions = list(range(number))
+    if shuffled:
+        random.Random(1).shuffle(places)
+        random.Random(2).shuffle(transitions)
+    for p in places:
+        out.write(f'   <place id="p{p}">\n    <initialMarking>\n     <text>{p % 9 + 1}</text>\n    </initialMarking>\n   </place>\n'
+                  .encode())
+    for t in transitions:
+        out.write(f'   <transition id="t{t}"/>\n'.encode())
+    for k in range(number):
+        out.write(f'   <arc id="i{k}" source="p{k}" target="t{k}"/>\n'.encode())
+        out.write(f'   <arc id="o{k}" source="t{k}" target="p{(k * 7 + 1) % number}">\n'
+                  f'    <inscription>\n     <text>2</text>\n    </inscription>\n   </arc>\n'.encode())
+    out.write(end)
+
+
+def repeated(before, piece, times, behind):
+    """A writer of `before`, `piece` as often as asked and the limit allows, and `behind`."""
+    def write(size, out):
+        room = min(size, LIMIT) - len(before) - len(behind)
+        left = min(times, room // len(piece))
+        out.write(before)
+        while left > 0:
+            part = min(left, 4096)
+            out.write(piece * part)
+            left -= part
+        out.write(behind)
+    return write
+
+
+def attributes(size, out):
+    """One tag with as many attributes as the size allows, four million at most."""
+    out.write(b'<a')
+    for k in range(min(4000000, (min(size, LIMIT) - 6) // 13)):
+        out.write(f' a{k:07}=""'.encode())
+    out.write(b'/>')
+
+
+ALL = 1 << 62
+FILES = {
+    'plain': ('a plain net', plain_net),
+    'shuffled': ('a plain net, ids in any order', lambda size, out: plain_net(size, out, True)),
+    'elements': ('2^24 elements `<b/>` in one', repeated(b'<a>', b'<b/>', 1 << 24, b'</a>')),
+    'turns': ('2^23 texts and elements in turns', repeated(b'<a>', b'x<b/>', 1 << 23, b'</a>')),
+    'attributes': ('one tag with 4 million attributes', attributes),
+    'value': ('one long value', repeated(b'<a b="', b'v', ALL, b'"/>')),
+    'name': ('one long name', repeated(b'<', b'n', ALL, b'/>')),
+    'comment': ('one long comment', repeated(b'<a><!--', b'c', ALL, b'--></a>')),
+    'references': ('13 million references', repeated(b'<a>', b'&amp;', 13000000, b'</a>')),
+    'comments': ('9 million empty comments', repeated(b'<a>', b'<!---->', 9000000, b'</a>')),
+}
+
+
+MINUTE = 60
+
+
+def measured(words, path):
+    """One run over a file, of a minute at most: its status, user seconds, and peak of memory in MB."""
+    def bound():
+        resource.setrlimit(resource.RLIMIT_CPU, (MINUTE, MINUTE))
+
+    with open(path, 'rb') as source, open(os.devnull, 'wb') as nowhere:
+        child = subprocess.Popen(words, stdin=source, stdout=nowhere, stderr=nowhere, preexec_fn=bound)
+        _, status, used = os.wait4(child.pid, 0)
+        child.returncode = os.waitstatus_to_exitcode(status)
+        return child.returncode, used.ru_utime, used.ru_maxrss / 1024
+
+
+def row(path, programs, turns):
+    """For each program its status, least user time and least peak over all turns, or None where it is not there."""
+    least = {}
+    for _ in range(turns):
+        for name, words in programs:
+            if name in least and least[name][0] != 0:
+                continue
+            status, seconds, peak = measured([w.replace('FILE', path) for w in words], path)
+            was = least.get(name, (status, seconds, peak))
+            least[name] = (status, min(was[1], seconds), min(was[2], peak))
+    return least
+
+
+def ratio(name, least, part):
+    """A figure of a program as a ratio to that of xmllint, where xmllint took the file."""
+    got, by = least[name], least['xmllint']
+    if by[0] != 0 or by[part] == 0:
+        return f'{got[part]:.2f} s' if part == 1 else f'{got[part]:.0f} MB'
+    return f'{got[part] / by[part]:.2f}'
+
+
+def main():
+    asked = argparse.ArgumentParser(description=__doc__, formatter_class=argparse.RawDescriptionHelpFormatter)
+    asked.add_argument('--size', type=int, default=64, help='MiB of a file, 64 at most')
+    asked.add_argument('--turns', type=int, default=5)
+    asked.add_argument('--keep', help='a folder for the files, which are kept')
+    asked.add_argument('kinds', nargs='*', help=' '.join(FILES))
+    asked = asked.parse_args()
+    unknown = [kind for kind in asked.kinds if kind not in FILES]
+    if unknown:
+        sys.exit(f'no such file: {" ".join(unknown)}; there are {" ".join(FILES)}')
+    programs = [('xmllint', ['xmllint', '--huge', '--noout', 'FILE'])]
+    for name, words in (('pn_count', []), ('pn_tool', ['check'])):
+        path = os.path.join(TOP, 'crates', name, 'out', name)
+        if not os.path.exists(path):
+            sys.exit(f'{name} is not built: run `rt run` in crates/{name}')
+        programs.append((name, [path] + words))
+    if shutil.which('xmllint') is None:
+        sys.exit('xmllint is missing: apt-get install libxml2-utils')
+    folder = asked.keep or tempfile.mkdtemp(prefix='bench')
+    os.makedirs(folder, exist_ok=True)
+    print(f'{time.strftime("%Y-%m-%d")}, {os.cpu_count()} processors, files of {asked.size} MiB at most, '
+          f'least of {asked.turns} turns')
+    print()
+    print('| file | xmllint | scanner and tree: time | memory | `check`: time | memory |')
+    print('|---|---|---|---|---|---|')
+    for kind in asked.kinds or FILES:
+        what, write = FILES[kind]
+        path = os.path.join(folder, f'{kind}-{asked.size}.xml')
+        if not os.path.exists(path):
+            with open(path, 'wb', 1 << 20) as out:
+                write(asked.size << 20, out)
+        least = row(path, programs, asked.turns)
+        by = least['xmllint']
+        figure = f'{by[1]:.2f} s, {by[2]:.0f} MB' if by[0] == 0 else 'over a minute' if by[1] >= MINUTE - 1 else 'refused'
+        cells = [ratio(name, least, part) for name in ('pn_count', 'pn_tool') for part in (1, 2)]
+        print(f'| {what} | {figure} | {" | ".join(cells)} |', flush=True)
+        if not asked.keep:
+            os.remove(path)
+    if not asked.keep:
+        os.rmdir(folder)
+
+
+if __name__ == '__main__':
+    main()
