@@ -34,4 +34,3 @@ pub mod ReachLemmas
 pub mod ContextLemmas
 pub mod ReadingLemmas
 pub mod OrdinaryLemmas
-pub mod KindLemmas

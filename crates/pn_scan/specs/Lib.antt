@@ -10,4 +10,3 @@ pub mod Open
 pub mod Fed
 pub mod Reading
 pub mod Ordinary
-pub mod Kinds

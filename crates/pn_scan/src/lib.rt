@@ -7,7 +7,6 @@ mod bytes;
 mod characters;
 mod context;
 mod declaration;
-mod kinds;
 pub mod laws;
 mod misc;
 mod names;

@@ -4,18 +4,38 @@ ghost use Rattle.std.specs.Prelude.{◌≡◌, ◌≤◌, ◌++◌, length, take
 ghost use Rattle.std.specs.List.{prefix_len};
 ghost use Rattle.pn_scan.specs.State.{Nesting};
 ghost use Rattle.pn_scan.specs.Contexts.{state_of};
-ghost use Rattle.pn_scan.specs.Ordinary.{is_ordinary_name, is_ordinary_value, ordinary_text, ordinary_value, ordinary_but, ordinary_space, due_front, is_ordinary, behind_ordinary};
+ghost use Rattle.pn_scan.specs.Ordinary.{is_ascii, is_ordinary_text, is_ordinary_name, is_ordinary_value, is_ordinary_but, ordinary_text, ordinary_value, ordinary_but, ordinary_space, due_front, is_ordinary, behind_ordinary};
 
-use crate::bytes::is_space_byte;
+use crate::bytes::{continues_name, is_space_byte};
 use crate::context::{Brackets, Context, Kept};
-use crate::kinds::{is_ascii_byte, is_name_byte, is_text_byte, is_value_part};
 use std::alloc::AllocError;
+
+/// A character of one byte, but CR.
+fn is_ascii_byte(byte: u8) -> bool
+    ensures { result ≡ is_ascii byte }
+{
+    byte == b'\t' || byte == b'\n' || 0x20 <= byte && byte <= 0x7F
+}
+
+/// A byte that stands for itself in content.
+fn is_text_byte(byte: u8) -> bool
+    ensures { result ≡ is_ordinary_text byte }
+{
+    is_ascii_byte(byte) && !(byte == b'<' || byte == b'&' || byte == b'>' || byte == b']')
+}
+
+/// A byte that stands for itself in a name.
+fn is_name_byte(byte: u8) -> bool
+    ensures { result ≡ is_ordinary_name byte }
+{
+    byte < 0x80 && continues_name(byte)
+}
 
 /// A byte that stands for itself in a value in these quotes.
 fn is_value_byte(quote: u8, byte: u8) -> bool
     ensures { result ≡ is_ordinary_value quote byte }
 {
-    byte != quote && is_value_part(byte)
+    0x20 <= byte && byte <= 0x7F && !(byte == quote || byte == b'<' || byte == b'&')
 }
 
 /// How many bytes at the front of a piece stand for themselves in content behind these brackets,
