@@ -9,8 +9,8 @@ use Rattle.pn_tree.specs.declared.view.View.{View}
 use Rattle.pn_tree.specs.declared.view.Kid.{Kid}
 use Rattle.pn_tree.specs.declared.view.Kid.TheVariants as kids
 
--- the element that a view shows
-abbrev pub element_of : View → Element
+-- the element that a view shows. It isn't unfolded but where that is asked for, so that clauses compare views by this word
+unfoldable pub element_of : View → Element
 element_of v = element_in 256 v.store.now v.node
 
 -- the kid that is shown

@@ -30,6 +30,7 @@ impl<'a> View<'a> {
     ghost use Rattle.pn_tree.specs.Views.{element_of, child_of, IsShallower};
 
     /// A view of the element of a node.
+    #[tactic(auto, unfolding(crate::specs::Views::element_of))]
     pub(crate) fn new(store: &'a Store, node: u32) -> View<'a>
         requires { IsRoot store.now node }
         ensures { element_of result ≡ element_in 256 store.entry.now node }
@@ -38,6 +39,7 @@ impl<'a> View<'a> {
     }
 
     /// The element's node.
+    #[tactic(auto, unfolding(crate::specs::Views::element_of))]
     fn own_node(self) -> Node
         ensures made { element_of self.entry
             ≡ made_of (element_in 255 self.entry.store.now) self.entry.store.now self.entry.store.now.kids result }
@@ -102,6 +104,7 @@ impl<'a> View<'a> {
     }
 
     /// The kid at this place.
+    #[tactic(auto, unfolding(crate::specs::Views::element_of))]
     pub fn kid(self, i: usize) -> Kid<'a>
         requires { i < length (element_of self).kids }
         ensures kid { slice_get (element_of self.entry).kids i ≡ Some (child_of result) }

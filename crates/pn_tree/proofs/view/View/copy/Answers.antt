@@ -5,5 +5,6 @@ use Rattle.pn_tree.proofs.DepthLemmas.{depth_within}
 use Rattle.pn_tree.proofs.view.View.copy.Goals as goal
 
 pub copy_element-requires : goal.copy_element-requires
+unfolding element_of
 copy_element-requires c =
     omega (arith, ap (λ (b : Building). length b.open_elements) c.new-builder.ensures, depth_within 256 (element_of c.args.self) c.args.self.is_tree.is_tree)

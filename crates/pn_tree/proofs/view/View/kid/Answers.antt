@@ -12,6 +12,7 @@ place-requires c =
     omega (arith, counted, c.requires)
 
 pub invariant_of-result : goal.invariant_of-result
+unfolding element_of
 invariant_of-result c =
     let t = c.args.self.store.now in
     let n = c.own_node.result in
@@ -22,6 +23,7 @@ invariant_of-result c =
     record { is_tree = kid_root t c.args.self.node c.in-Element.node c.args.i c.args.self.is_tree.is_tree is c.in-Element.ensures.within }
 
 pub returns-in-Element-clause-kid : goal.returns-in-Element-clause-kid
+unfolding element_of
 returns-in-Element-clause-kid c =
     let t = c.args.self.store.now in
     let n = c.own_node.result in
@@ -32,6 +34,7 @@ returns-in-Element-clause-kid c =
     is ∙ ap (λ e. Some (children.Element e)) (sym (kid_same t c.args.self.node c.in-Element.node c.args.i c.args.self.is_tree.is_tree is))
 
 pub returns-in-Element-clause-depth : goal.returns-in-Element-clause-depth
+unfolding element_of
 returns-in-Element-clause-depth c =
     let t = c.args.self.store.now in
     let n = c.own_node.result in
