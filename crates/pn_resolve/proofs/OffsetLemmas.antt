@@ -85,7 +85,7 @@ elements_bare : (es : List PartElement) → map element_id (map element_without_
 elements_bare [] = refl
 elements_bare (e ∷ es) = ap (λ ids. e.id ∷ ids) (elements_bare es)
 
-ids_bare : (d : Declaration) → constant_ids (declaration_without_offsets d) ≡ constant_ids d
+pub ids_bare : (d : Declaration) → constant_ids (declaration_without_offsets d) ≡ constant_ids d
 ids_bare (declarations.Named id name (bodies.Plain e) at) = refl
 ids_bare (declarations.Named id name (bodies.Finite constants) at) = constants_bare constants
 ids_bare (declarations.Named id name (bodies.Cyclic constants) at) = constants_bare constants
@@ -110,7 +110,7 @@ variables_bare before (declarations.Partition id name sort elements at) = refl
 names_in_bare : (place before : ℕ) (d : Declaration) → names_in place before (declaration_without_offsets d) ≡ names_in place before d
 names_in_bare place before d = λ i. (id_bare d i, own_bare place before d i) ∷ numbered place 0 (ids_bare d i)
 
-names_bare : (place before : ℕ) (ds : List Declaration) → names_from place before (map declaration_without_offsets ds) ≡ names_from place before ds
+pub names_bare : (place before : ℕ) (ds : List Declaration) → names_from place before (map declaration_without_offsets ds) ≡ names_from place before ds
 names_bare place before [] = refl
 names_bare place before (d ∷ ds) =
     ap (λ names. names ++ names_from (suc place) (with_variable before (declaration_without_offsets d)) (map declaration_without_offsets ds)) (names_in_bare place before d)

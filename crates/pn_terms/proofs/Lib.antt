@@ -1,3 +1,4 @@
+pub mod OffsetLemmas
 pub mod OrderLemmas
 pub mod SortLemmas
 pub mod SoundLemmas

@@ -1,3 +1,4 @@
+pub mod Offsets
 pub mod Order
 pub mod Rows
 pub mod Sorts

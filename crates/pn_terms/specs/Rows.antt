@@ -24,7 +24,7 @@ abbrev is_integer_layer : layer.Sort-F Sort → Bool
 is_integer_layer layer.Integer = true
 is_integer_layer _ = false
 
-abbrev is_round_layer : List Declaration → layer.Sort-F Sort → Bool
+abbrev pub is_round_layer : List Declaration → layer.Sort-F Sort → Bool
 is_round_layer items (layer.Enumeration place) = is_cyclic items place
 is_round_layer items _ = false
 

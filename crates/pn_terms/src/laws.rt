@@ -1,8 +1,10 @@
 //! The laws of sorts of terms. A function here does nothing; its contract is the law.
 
-ghost use Rattle.std.specs.Prelude.{◌≡◌, List, Some};
+ghost use Rattle.std.specs.Prelude.{◌≡◌, List, Some, map};
 ghost use Rattle.pn_faults.specs.declared.fault.Fault.{Fault};
 ghost use Rattle.pn_faults.specs.Standing.{IsLeastOf};
+ghost use Rattle.pn_syntax.specs.Offsets.{declaration_without_offsets};
+ghost use Rattle.pn_terms.specs.Offsets.{term_without_offsets};
 ghost use Rattle.pn_terms.specs.Order.{IsOrdered};
 ghost use Rattle.pn_terms.specs.Sorts.{HasSort};
 ghost use Rattle.pn_terms.specs.Standing.{StandsIn};
@@ -23,4 +25,13 @@ pub fn what_has_a_sort_has_no_fault()
 /// In a term whose offsets rise in document order the least fault is one.
 pub fn the_least_fault_is_one()
     ensures { (items : List Declaration) (e : Term) (f g : Fault) → IsOrdered e → IsLeastOf (StandsIn items e) (Some f) → IsLeastOf (StandsIn items e) (Some g) → f ≡ g }
+{}
+
+/// Terms that are equal but for their offsets have the same sort, in declarations that are equal
+/// but for theirs.
+pub fn offsets_change_no_sort_of_a_term()
+    ensures { (items others : List Declaration) (e other : Term) (s : TermSort)
+        → map declaration_without_offsets items ≡ map declaration_without_offsets others
+        → term_without_offsets e ≡ term_without_offsets other
+        → HasSort items e s → HasSort others other s }
 {}
