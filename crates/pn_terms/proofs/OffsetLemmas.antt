@@ -1,7 +1,7 @@
 -- Offsets have no part in the sorts of terms.
 use Rattle.std.proofs.Common.{◌≡◌, ℕ, List, [], ◌∷◌, map, length, ◌&&◌, ◌||◌, ◌==◌, Option, None, Some, refl, sym, ap, ◌∙◌, subst}
-use Rattle.std.specs.List.{list_all, slice_get}
-use Rattle.std.specs.Option.{option_and_then, option_map}
+use Rattle.std.specs.List.{flat_map, list_all, slice_get}
+use Rattle.std.specs.Option.{option_and_then, option_map, option_to_list}
 use Rattle.std.proofs.lemmas.Option.{slice_get-map}
 use Rattle.pn_operators.specs.declared.op.Op.{Op}
 use Rattle.pn_operators.specs.declared.op.Op.TheVariants as ops
@@ -13,8 +13,8 @@ use Rattle.pn_syntax.specs.declared.sort_expr.SortExpr.{SortExpr}
 use Rattle.pn_syntax.specs.declared.term.Term.{Term}
 use Rattle.pn_syntax.specs.declared.term.TermNode.{TermNode, map-TermNode}
 use Rattle.pn_syntax.specs.declared.term.TermNode.TheOpen as layer
-use Rattle.pn_syntax.specs.declared.term.TermNode.TheViews.{out-TermNode, out-roll-TermNode}
-use Rattle.pn_syntax.specs.declared.term.TermNode.TheFolds.{fold-TermNode, fold_out-Term, fold_out-TermNode}
+use Rattle.pn_syntax.specs.declared.term.TermNode.TheViews.{out-TermNode, roll-TermNode, out-roll-TermNode}
+use Rattle.pn_syntax.specs.declared.term.TermNode.TheFolds.{fold-Term, fold-TermNode, fold_out-Term, fold_out-TermNode, ind-Term}
 use Rattle.pn_values.specs.declared.constant_ref.ConstantRef.{ConstantRef}
 use Rattle.pn_values.specs.declared.sort.Sort.{Sort}
 use Rattle.pn_values.specs.declared.sort.Sort.TheVariants as sorts
@@ -37,6 +37,7 @@ use Rattle.pn_terms.specs.Offsets.{at_zero, layer_without_offsets, node_without_
 use Rattle.pn_terms.specs.Rows.{Suit, first_of, is_basis_in, is_counted, is_in, is_indexed, is_round_layer, is_scaled, last_of}
 use Rattle.pn_terms.specs.Sorts.{Gives, HasSort, HaveSorts, none, more, is_few, number_sort}
 use Rattle.pn_terms.specs.Terms.{Layer, layer_of, parts_in, parts_of}
+use Rattle.pn_terms.specs.Variables.{variables_in_layer, variables_in_term}
 
 -- ---- declarations without offsets
 
@@ -77,8 +78,11 @@ variables_bare (declarations.Partition id name sort elements at ∷ ds) = variab
 
 -- ---- terms without offsets
 
+abbrev bare_node : TermNode → TermNode
+bare_node = fold-TermNode TermNode Term node_without_offsets at_zero
+
 abbrev bare_layer : Layer → Layer
-bare_layer l = layer_without_offsets (map-TermNode TermNode Term TermNode Term (fold-TermNode TermNode Term node_without_offsets at_zero) term_without_offsets l)
+bare_layer l = layer_without_offsets (map-TermNode TermNode Term TermNode Term bare_node term_without_offsets l)
 
 layer_bare : (e : Term) → layer_of (term_without_offsets e) ≡ bare_layer (layer_of e)
 layer_bare e =
@@ -311,3 +315,91 @@ offsets_aside items others e other s same alike (ts, have, gives) = (
   have_moved items others same (parts_of e) (parts_of other) ts (parts_alike e other alike) have,
   gives_moved items others same (layer_of e) (layer_of other) (layers_alike e other alike) ts s gives,
 )
+
+-- ---- variables
+
+module _ (items : List Declaration) where
+  abbrev of_node : TermNode → List ℕ
+  of_node = fold-TermNode (List ℕ) (List ℕ) (variables_in_layer items) (λ e. e.node)
+
+  abbrev of_layer : Layer → List ℕ
+  of_layer l = variables_in_layer items (map-TermNode TermNode Term (List ℕ) (List ℕ) of_node (variables_in_term items) l)
+
+  abbrev HasSameBare : Term → Type 0
+  HasSameBare e = variables_in_term items (term_without_offsets e) ≡ variables_in_term items e
+
+  abbrev NodeHasSameBare : TermNode → Type 0
+  NodeHasSameBare n = of_node (bare_node n) ≡ of_node n
+
+  abbrev TermWithProof : Type 0
+  TermWithProof = (e : Term) × HasSameBare e
+
+  abbrev NodeWithProof : Type 0
+  NodeWithProof = (n : TermNode) × NodeHasSameBare n
+
+  abbrev plain : layer.TermNode-F NodeWithProof TermWithProof → Layer
+  plain y = map-TermNode NodeWithProof TermWithProof TermNode Term (λ n. n.0) (λ e. e.0) y
+
+  of_rolled : (l : Layer) → of_node (roll-TermNode l) ≡ of_layer l
+  of_rolled l = fold_out-TermNode (List ℕ) (List ℕ) (variables_in_layer items) (λ e. e.node) (roll-TermNode l) ∙ ap of_layer (out-roll-TermNode l)
+
+  of_args : (ys : List TermWithProof) → map (variables_in_term items) (map term_without_offsets (map (λ e. e.0) ys)) ≡ map (variables_in_term items) (map (λ e. e.0) ys)
+  of_args [] = refl
+  of_args (y ∷ ys) = λ i. y.1 i ∷ of_args ys i
+
+  of_layer_bare : (y : layer.TermNode-F NodeWithProof TermWithProof) → of_layer (bare_layer (plain y)) ≡ of_layer (plain y)
+  of_layer_bare (layer.Variable name) = refl
+  of_layer_bare (layer.UserOp name) = refl
+  of_layer_bare (layer.Bool truth) = refl
+  of_layer_bare (layer.Number value sort) = refl
+  of_layer_bare (layer.RangeConst value start end) = refl
+  of_layer_bare (layer.Text text) = refl
+  of_layer_bare (layer.All e) = refl
+  of_layer_bare (layer.Empty e) = refl
+  of_layer_bare (layer.EmptyList e) = refl
+  of_layer_bare (layer.PartitionOf name arg) = arg.1
+  of_layer_bare (layer.Apply op args) = ap (flat_map (λ vs. vs)) (of_args args)
+
+  node_rolled : (l : Layer) → bare_node (roll-TermNode l) ≡ roll-TermNode (bare_layer l)
+  node_rolled l = fold_out-TermNode TermNode Term node_without_offsets at_zero (roll-TermNode l) ∙ ap (λ k. roll-TermNode (bare_layer k)) (out-roll-TermNode l)
+
+  node_step : (y : layer.TermNode-F NodeWithProof TermWithProof) → NodeHasSameBare (roll-TermNode (plain y))
+  node_step y = ap of_node (node_rolled (plain y)) ∙ of_rolled (bare_layer (plain y)) ∙ of_layer_bare y ∙ sym (of_rolled (plain y))
+
+  of_term : (e : Term) → variables_in_term items e ≡ of_node e.node
+  of_term = fold_out-Term (List ℕ) (List ℕ) (variables_in_layer items) (λ e. e.node)
+
+  term_step : (e : Term) → NodeHasSameBare e.node → HasSameBare e
+  term_step e h =
+      ap (variables_in_term items) (fold_out-Term TermNode Term node_without_offsets at_zero e)
+      ∙ of_term (record { at = 0; node = bare_node e.node })
+      ∙ h
+      ∙ sym (of_term e)
+
+  -- a term has the variables that it has without offsets
+  variables_of_bare : (e : Term) → HasSameBare e
+  variables_of_bare = ind-Term NodeHasSameBare HasSameBare
+      (λ x y is. subst (λ l. NodeHasSameBare (roll-TermNode l)) is (node_step y))
+      (λ x y is. subst (λ z. HasSameBare (record { at = z.at; node = z.node })) is (term_step (record { at = y.at; node = y.node.0 }) y.node.1))
+
+-- equal but for the offsets, a term has the same variables
+pub variables_aside : (items others : List Declaration) (e other : Term) → map declaration_without_offsets items ≡ map declaration_without_offsets others
+    → term_without_offsets e ≡ term_without_offsets other → variables_in_term items e ≡ variables_in_term others other
+variables_aside items others e other same alike =
+    sym (variables_of_bare items e)
+    ∙ ap (variables_in_term items) alike
+    ∙ variables_of_bare items other
+    ∙ (λ i. fold-Term (List ℕ) (List ℕ) (λ l. layer_same l i) (λ e. e.node) other)
+  where
+    layer_same : (l : layer.TermNode-F (List ℕ) (List ℕ)) → variables_in_layer items l ≡ variables_in_layer others l
+    layer_same (layer.Variable name) = ap (λ names. option_to_list (option_and_then variable_number (named_in names name))) (names_same items others same)
+    layer_same (layer.UserOp name) = refl
+    layer_same (layer.Bool truth) = refl
+    layer_same (layer.Number value sort) = refl
+    layer_same (layer.RangeConst value start end) = refl
+    layer_same (layer.Text text) = refl
+    layer_same (layer.All e) = refl
+    layer_same (layer.Empty e) = refl
+    layer_same (layer.EmptyList e) = refl
+    layer_same (layer.PartitionOf name arg) = refl
+    layer_same (layer.Apply op args) = refl

@@ -8,6 +8,7 @@ ghost use Rattle.pn_terms.specs.Offsets.{term_without_offsets};
 ghost use Rattle.pn_terms.specs.Order.{IsOrdered};
 ghost use Rattle.pn_terms.specs.Sorts.{HasSort};
 ghost use Rattle.pn_terms.specs.Standing.{StandsIn};
+ghost use Rattle.pn_terms.specs.Variables.{variables_in_term};
 ghost use Rattle.pn_syntax.specs.declared.term.Term.{Term};
 ghost use Rattle.pn_terms.specs.declared.term_sort.TermSort.{TermSort};
 ghost use Rattle.pn_syntax.specs.declared.declaration.Declaration.{Declaration};
@@ -34,4 +35,13 @@ pub fn offsets_change_no_sort_of_a_term()
         → map declaration_without_offsets items ≡ map declaration_without_offsets others
         → term_without_offsets e ≡ term_without_offsets other
         → HasSort items e s → HasSort others other s }
+{}
+
+/// Terms that are equal but for their offsets have the same variables, in declarations that are
+/// equal but for theirs.
+pub fn offsets_change_no_variables()
+    ensures { (items others : List Declaration) (e other : Term)
+        → map declaration_without_offsets items ≡ map declaration_without_offsets others
+        → term_without_offsets e ≡ term_without_offsets other
+        → variables_in_term items e ≡ variables_in_term others other }
 {}
