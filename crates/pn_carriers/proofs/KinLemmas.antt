@@ -14,22 +14,22 @@ use Rattle.pn_carriers.specs.Carriers.{is_finite, is_finite_layer}
 abbrev IsOwnKin : Sort → Type 0
 IsOwnKin s = is_finite s ≡ true → kin_of s ≡ s
 
-abbrev Part : Type 0
-Part = (s : Sort) × IsOwnKin s
+abbrev SortOwnKin : Type 0
+SortOwnKin = (s : Sort) × IsOwnKin s
 
-abbrev sorts_of : List Part → List Sort
+abbrev sorts_of : List SortOwnKin → List Sort
 sorts_of es = map (λ e. e.0) es
 
 by_layer : (x : layer.Sort-F Sort) → (is_finite_layer (map-Sort Sort Bool is_finite x) ≡ true → kin_step (map-Sort Sort Sort kin_of x) ≡ roll-Sort x) → IsOwnKin (roll-Sort x)
 by_layer x own finite = fold-roll-Sort Sort kin_step x ∙ own (sym (fold-roll-Sort Bool is_finite_layer x) ∙ finite)
 
-parts_own : (es : List Part) → list_all (λ part. part) (map is_finite (sorts_of es)) ≡ true → map kin_of (sorts_of es) ≡ sorts_of es
+parts_own : (es : List SortOwnKin) → list_all (λ part. part) (map is_finite (sorts_of es)) ≡ true → map kin_of (sorts_of es) ≡ sorts_of es
 parts_own [] finite = refl
 parts_own (e ∷ es) finite = λ i.
     e.1 (and_left (is_finite e.0) (list_all (λ part. part) (map is_finite (sorts_of es))) finite) i
     ∷ parts_own es (and_right (is_finite e.0) (list_all (λ part. part) (map is_finite (sorts_of es))) finite) i
 
-step : (y : layer.Sort-F Part) → IsOwnKin (roll-Sort (map-Sort Part Sort (λ e. e.0) y))
+step : (y : layer.Sort-F SortOwnKin) → IsOwnKin (roll-Sort (map-Sort SortOwnKin Sort (λ e. e.0) y))
 step layer.Dot = by_layer layer.Dot (λ finite. sym rolls-Dot)
 step layer.Bool = by_layer layer.Bool (λ finite. sym rolls-Bool)
 step (layer.Enumeration n) = by_layer (layer.Enumeration n) (λ finite. sym (rolls-Enumeration n))
