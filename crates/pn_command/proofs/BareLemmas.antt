@@ -1,6 +1,6 @@
 -- Elements without white space.
 use Rattle.std.proofs.Common.{◌≡◌, ◌≢◌, MatchOption, subst, ◌==◌, ◌<◌, arith, get_or, decimal, ℕ, ◌+◌, ◌≤◌, zero, suc, Bool, true, false, List, [], ◌∷◌, ◌++◌, codes, map, not, length, take, refl, sym, ap, ◌∙◌, true≢false, Option, Some, None, slice_get, cond, add-one, append-nil}
-use Rattle.std.proofs.lemmas.List.{map-append, take_all}
+use Rattle.std.proofs.lemmas.List.{map-append, take_all, length-map}
 use Rattle.std.proofs.lemmas.List.Elements.{filter-append}
 use Rattle.std.proofs.lemmas.Option.{slice_get_within, get_or_from_slice_get}
 use Rattle.std.proofs.Math.Seq.{take-suc}
@@ -126,6 +126,9 @@ is_inside e views n other all so_far = seen_kids e other ∙ ap seen (sym (take_
 pub bare_attrs : (e x : Element) → bare e ≡ x → e.attrs ≡ x.attrs
 bare_attrs e x same = ap (λ y. y.attrs) (sym (bare_is e)) ∙ ap (λ y. y.attrs) same
 
+pub bare_name : (e x : Element) → bare e ≡ x → e.name ≡ x.name
+bare_name e x same = ap (λ y. y.name) (sym (bare_is e)) ∙ ap (λ y. y.name) same
+
 pub bare_made : (e : Element) (name : List ℕ) (attrs : List Attr) (inner : List Child) → e.name ≡ name → e.attrs ≡ attrs → (bare e).kids ≡ inner → bare e ≡ made name attrs inner
 bare_made e name attrs inner n a k =
     let is : bare e ≡ made e.name e.attrs (bare e).kids = bare_is e ∙ ap (λ (ks : List Child). made e.name e.attrs ks) (ap (λ x. x.kids) (sym (bare_is e))) in
@@ -133,6 +136,10 @@ bare_made e name attrs inner n a k =
 
 pub bare_kids-text : (e : Element) → bytes_eq e.name (codes "text") ≡ true → (bare e).kids ≡ map bare_kid e.kids
 bare_kids-text e is = ap (λ x. x.kids) (bare_is e) ∙ ap (λ b. cond b (map bare_kid e.kids) (filter is_written (map bare_kid e.kids))) is
+
+-- the element `text` keeps all its kids
+pub text_counted : (e x : Element) → bare e ≡ x → bytes_eq e.name (codes "text") ≡ true → length e.kids ≡ length x.kids
+text_counted e x same is = sym (length-map e.kids bare_kid) ∙ ap length (sym (bare_kids-text e is) ∙ ap (λ y. y.kids) same)
 
 pub first_of : {A : Type 0} (x y : A) → x ∷ [] ≡ y ∷ [] → x ≡ y
 first_of x y e = cc

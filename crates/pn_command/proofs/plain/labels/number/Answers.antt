@@ -1,10 +1,16 @@
-use Rattle.std.proofs.Common.{[], ◌∷◌, refl, sym, ◌∙◌, ap}
+use Rattle.std.proofs.Common.{rules, [], ◌∷◌, refl, sym, ◌∙◌, ap}
 use Rattle.pn_tree.specs.Views.{element_of}
 use Rattle.pn_tree.specs.declared.element.Child.TheVariants as children
 use Rattle.pn_command.specs.NetTree.{number_tree}
 use Rattle.pn_command.specs.PlainTree.{text_tree}
-use Rattle.pn_command.proofs.BareLemmas.{texted, not_one, number_read, match_none, match_some}
+use Rattle.pn_command.proofs.BareLemmas.{bare_attrs, bare_name, texted, not_one, number_read, match_none, match_some}
 use Rattle.pn_command.proofs.plain.labels.number.Goals as goal
+
+pub returns-then-not-has_name : goal.returns-then-not-has_name
+returns-then-not-has_name c other is same =
+    let name = bare_name (element_of c.args.view) (number_tree c.args.name.now other) same in
+    let attrs = bare_attrs (element_of c.args.view) (number_tree c.args.name.now other) same in
+    search (rules, name, attrs)
 
 pub returns-in_default : goal.returns-in_default
 returns-in_default c other count same =

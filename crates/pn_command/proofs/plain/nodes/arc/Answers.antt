@@ -1,11 +1,32 @@
-use Rattle.std.proofs.Common.{◌≡◌, codes, refl, sym, ◌∙◌, map, Some, subst}
+use Rattle.std.proofs.Common.{rules, ◌≡◌, codes, refl, sym, ◌∙◌, map, Some, subst}
 use Rattle.pn_tree.specs.Views.{element_of}
 use Rattle.pn_command.specs.NetTree.{label_kids, arc_tree}
 use Rattle.pn_command.specs.declared.plain.net.Arc.{Arc}
 use Rattle.pn_command.specs.Plain.{IsArc, IsLabel}
 use Rattle.pn_command.specs.PlainTree.{bare, shown}
-use Rattle.pn_command.proofs.BareLemmas.{match_none, match_some, no_label, part_is, arc_is}
+use Rattle.pn_command.proofs.BareLemmas.{bare_attrs, bare_name, match_none, match_some, no_label, part_is, arc_is}
 use Rattle.pn_command.proofs.plain.nodes.arc.Goals as goal
+
+pub returns-then-not-has_name : goal.returns-then-not-has_name
+returns-then-not-has_name c other is same =
+    let name = bare_name (element_of c.args.view) (arc_tree other) same in
+    let attrs = bare_attrs (element_of c.args.view) (arc_tree other) same in
+    search (rules, name, attrs)
+
+pub returns-in_default : goal.returns-in_default
+returns-in_default c other is same =
+    let attrs = bare_attrs (element_of c.args.view) (arc_tree other) same in
+    search (rules, attrs)
+
+pub returns-in_default-id_at : goal.returns-in_default-id_at
+returns-in_default-id_at c other is same =
+    let attrs = bare_attrs (element_of c.args.view) (arc_tree other) same in
+    search (rules, attrs)
+
+pub returns-in_default-id_at-2 : goal.returns-in_default-id_at-2
+returns-in_default-id_at-2 c other is same =
+    let attrs = bare_attrs (element_of c.args.view) (arc_tree other) same in
+    search (rules, attrs)
 
 pub returns-in_default-2 : goal.returns-in_default-2
 returns-in_default-2 c other is same = no_label (element_of c.args.view) (arc_tree other) (codes "inscription") other.weight (match_none _ _ c.in_ok-inside.field-0 c.in_default-2.is c.in_ok-inside.ensures) refl same

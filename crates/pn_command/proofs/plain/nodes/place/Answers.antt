@@ -1,10 +1,21 @@
-use Rattle.std.proofs.Common.{codes, refl, sym, ◌∙◌, map, Some}
+use Rattle.std.proofs.Common.{rules, codes, refl, sym, ◌∙◌, map, Some}
 use Rattle.pn_tree.specs.Views.{element_of}
 use Rattle.pn_command.specs.NetTree.{label_kids, place_tree}
 use Rattle.pn_command.specs.Plain.{IsLabel}
 use Rattle.pn_command.specs.PlainTree.{shown}
-use Rattle.pn_command.proofs.BareLemmas.{match_none, match_some, no_label, part_is, place_is}
+use Rattle.pn_command.proofs.BareLemmas.{bare_attrs, bare_name, match_none, match_some, no_label, part_is, place_is}
 use Rattle.pn_command.proofs.plain.nodes.place.Goals as goal
+
+pub returns-then-not-has_name : goal.returns-then-not-has_name
+returns-then-not-has_name c other is same =
+    let name = bare_name (element_of c.args.view) (place_tree other) same in
+    let attrs = bare_attrs (element_of c.args.view) (place_tree other) same in
+    search (rules, name, attrs)
+
+pub returns-in_default : goal.returns-in_default
+returns-in_default c other is same =
+    let attrs = bare_attrs (element_of c.args.view) (place_tree other) same in
+    search (rules, attrs)
 
 pub returns-in_default-2 : goal.returns-in_default-2
 returns-in_default-2 c other is same = no_label (element_of c.args.view) (place_tree other) (codes "initialMarking") other.marking (match_none _ _ c.in_ok-inside.field-0 c.in_default-2.is c.in_ok-inside.ensures) refl same

@@ -1,8 +1,19 @@
-use Rattle.std.proofs.Common.{[], refl, sym, ◌∙◌}
+use Rattle.std.proofs.Common.{rules, [], refl, sym, ◌∙◌}
 use Rattle.pn_tree.specs.Views.{element_of}
 use Rattle.pn_command.specs.NetTree.{transition_tree}
-use Rattle.pn_command.proofs.BareLemmas.{match_none, match_some, no_attrs, texted, transition_is}
+use Rattle.pn_command.proofs.BareLemmas.{bare_attrs, bare_name, match_none, match_some, no_attrs, texted, transition_is}
 use Rattle.pn_command.proofs.plain.nodes.transition.Goals as goal
+
+pub returns-then-not-has_name : goal.returns-then-not-has_name
+returns-then-not-has_name c other is same =
+    let name = bare_name (element_of c.args.view) (transition_tree other) same in
+    let attrs = bare_attrs (element_of c.args.view) (transition_tree other) same in
+    search (rules, name, attrs)
+
+pub returns-in_default : goal.returns-in_default
+returns-in_default c other is same =
+    let attrs = bare_attrs (element_of c.args.view) (transition_tree other) same in
+    search (rules, attrs)
 
 pub returns-in_default-2 : goal.returns-in_default-2
 returns-in_default-2 c other is same = texted (element_of c.args.view) (transition_tree other) [] (match_none _ _ c.in_ok-inside.field-0 c.in_default-2.is c.in_ok-inside.ensures) refl same
