@@ -33,7 +33,7 @@ use Rattle.pn_terms.specs.declared.family.Family.{Family}
 use Rattle.pn_terms.specs.declared.family.Family.TheVariants as families
 use Rattle.pn_terms.specs.declared.term_sort.TermSort.{TermSort}
 use Rattle.pn_terms.specs.declared.term_sort.TermSort.TheVariants as terms
-use Rattle.pn_terms.specs.Offsets.{at_zero, layer_without_offsets, node_without_offsets, term_without_offsets}
+use Rattle.pn_syntax.specs.TermOffsets.{at_zero, layer_without_offsets, node_without_offsets, term_without_offsets}
 use Rattle.pn_terms.specs.Rows.{Suit, first_of, is_basis_in, is_counted, is_in, is_indexed, is_round_layer, is_scaled, last_of}
 use Rattle.pn_terms.specs.Sorts.{Gives, HasSort, HaveSorts, none, more, is_few, number_sort}
 use Rattle.pn_terms.specs.Terms.{Layer, layer_of, parts_in, parts_of}

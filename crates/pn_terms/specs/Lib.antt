@@ -1,4 +1,3 @@
-pub mod Offsets
 pub mod Order
 pub mod Rows
 pub mod Sorts

@@ -4,7 +4,7 @@ ghost use Rattle.std.specs.Prelude.{◌≡◌, List, Some, map};
 ghost use Rattle.pn_faults.specs.declared.fault.Fault.{Fault};
 ghost use Rattle.pn_faults.specs.Standing.{IsLeastOf};
 ghost use Rattle.pn_syntax.specs.Offsets.{declaration_without_offsets};
-ghost use Rattle.pn_terms.specs.Offsets.{term_without_offsets};
+ghost use Rattle.pn_syntax.specs.TermOffsets.{term_without_offsets};
 ghost use Rattle.pn_terms.specs.Order.{IsOrdered};
 ghost use Rattle.pn_terms.specs.Sorts.{HasSort};
 ghost use Rattle.pn_terms.specs.Standing.{StandsIn};

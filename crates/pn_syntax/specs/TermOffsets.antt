@@ -5,10 +5,9 @@ use Rattle.pn_syntax.specs.declared.term.TermNode.{TermNode}
 use Rattle.pn_syntax.specs.declared.term.TermNode.TheOpen as layer
 use Rattle.pn_syntax.specs.declared.term.TermNode.TheViews.{roll-TermNode}
 use Rattle.pn_syntax.specs.declared.term.TermNode.TheFolds.{fold-Term}
-use Rattle.pn_terms.specs.Terms.{Layer}
 
 -- a layer whose sort is without offsets, with its parts as they are given
-abbrev pub layer_without_offsets : Layer → Layer
+abbrev pub layer_without_offsets : layer.TermNode-F TermNode Term → layer.TermNode-F TermNode Term
 layer_without_offsets (layer.Variable name) = layer.Variable name
 layer_without_offsets (layer.UserOp name) = layer.UserOp name
 layer_without_offsets (layer.Bool truth) = layer.Bool truth
@@ -22,7 +21,7 @@ layer_without_offsets (layer.PartitionOf partition arg) = layer.PartitionOf part
 layer_without_offsets (layer.Apply op args) = layer.Apply op args
 
 -- the same as a node
-abbrev pub node_without_offsets : Layer → TermNode
+abbrev pub node_without_offsets : layer.TermNode-F TermNode Term → TermNode
 node_without_offsets l = roll-TermNode (layer_without_offsets l)
 
 -- one element of a term at the offset 0, with its node as it is given
