@@ -14,7 +14,7 @@ use Rattle.pn_tree.specs.declared.element.Child.TheVariants as children
 use Rattle.pn_tree.specs.declared.element.Child.TheVariants.{rolls-Element, rolls-Text}
 use Rattle.pn_tree.specs.declared.element.Child.TheFolds.{fold-roll-Child}
 use Rattle.pn_tree.specs.declared.element.Child.TheViews.{out-Child, roll-Child, roll-out-Child}
-use Rattle.pn_tree.proofs.ElementLemmas.{is_kid-element, is_kid-text, is_text_kid-element, is_text_kid-text}
+use Rattle.pn_tree.proofs.ElementLemmas.{elements_apart, is_kid-element, is_kid-text, is_text_kid-element, is_text_kid-text}
 use Rattle.pn_tree.proofs.TreeLemmas.{is_element_more, not_element-zero, of_parts, parts_of}
 use Rattle.pn_facts.proofs.Truths.{and_both, and_left, and_right}
 use Rattle.pn_markup.specs.Offsets.{at_zero, kid_without_offsets, without_offsets}
@@ -69,10 +69,6 @@ bare_anywhere (suc m) t h =
 pub record Sound (levels : ℕ) (e : Element) : Type 0 where
   pub element : is_element levels e ≡ true
   pub self : bare e ≡ e
-
-elements_apart : (es : List Element) → are_apart (map children.Element es) ≡ true
-elements_apart [] = refl
-elements_apart (e ∷ es) = ap (λ b. not (b && begins_with_text (map children.Element es)) && are_apart (map children.Element es)) (is_text_kid-element e) ∙ elements_apart es
 
 elements_are_kids : (levels : ℕ) (es : List Element) → AllByRecursion (Sound levels) es → list_all (is_kid (is_element levels)) (map children.Element es) ≡ true
 elements_are_kids levels [] all = refl

@@ -3,3 +3,4 @@ pub mod Options
 pub mod Lists
 pub mod Bytes
 pub mod Contained
+pub mod Results

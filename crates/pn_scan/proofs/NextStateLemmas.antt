@@ -1,15 +1,16 @@
 -- What the machine makes of some bytes.
 use Rattle.std.specs.List.{slice_get, starts_with}
 use Rattle.std.proofs.Common.{◌≡◌, ℕ, zero, suc, ◌+◌, add-one, drop, nat_eq, ◌==◌, ◌&&◌, Bool, true, false, cond, codes, List, [], ◌∷◌, Some, None, refl, sym, ap, ◌∙◌, subst}
+use Rattle.std.proofs.lemmas.Bool.{eq-eqb}
 use Rattle.std.specs.Char.{encode_utf8}
 use Rattle.pn_text.specs.Characters.{utf8_of}
 use Rattle.pn_markup.specs.Bytes.{is_space, begins_with}
 use Rattle.pn_scan.specs.Rest.{may_end}
 use Rattle.pn_markup.specs.Misc.{is_xml}
-use Rattle.pn_scan.specs.State.{Nesting, Stage, before, behind, outside, due, in_declaration, behind_piece}
+use Rattle.pn_scan.specs.State.{State, Nesting, Stage, before, behind, outside, due, in_declaration, behind_piece}
 use Rattle.pn_scan.specs.Nestings.{inner_of}
 use Rattle.pn_scan.specs.Contexts.{next_behind_root, end_state, end_of}
-use Rattle.pn_scan.specs.NextState.{goes_due, next_state, next_in_declaration, part_begins, next_outside, next_in_target}
+use Rattle.pn_scan.specs.NextState.{goes_due, next_due, next_state, next_in_declaration, part_begins, next_outside, next_in_target}
 
 pub if_false : {A : Type 0} → (b : Bool) (x y : A) → b ≡ false → cond b x y ≡ y
 if_false true x y h = absurd (cc)
@@ -72,3 +73,21 @@ declaration_part stage spaced x no_space no_end is_spaced =
     if_false (is_space x) (Some (in_declaration stage true)) (cond ((x == 63) && may_end stage) (Some (due (codes ">") (outside false))) (cond spaced (part_begins stage x) None)) no_space
     ∙ if_false ((x == 63) && may_end stage) (Some (due (codes ">") (outside false))) (cond spaced (part_begins stage x) None) no_end
     ∙ if_true spaced (part_begins stage x) None is_spaced
+
+-- what is left of a word behind one byte more
+pub rest_due : (n : ℕ) (w : List ℕ) (b : ℕ) (rest : List ℕ) → drop n w ≡ b ∷ rest → drop (n + 1) w ≡ rest
+rest_due n w b rest h = ap (λ i. drop i w) (add-one n) ∙ go n w h
+  where
+    go : (i : ℕ) (l : List ℕ) → drop i l ≡ b ∷ rest → drop (suc i) l ≡ rest
+    go zero [] h = absurd (cc)
+    go zero (x ∷ xs) h = cc
+    go (suc i) [] h = absurd (cc)
+    go (suc i) (x ∷ xs) h = go i xs h
+
+pub due_next : (n : ℕ) (w : List ℕ) (b : ℕ) (rest : List ℕ) (s : State) → drop n w ≡ b ∷ rest → (rest ≡ [] → ⊥) → next_due (drop n w) s b ≡ Some (due (drop (n + 1) w) s)
+due_next n w b rest s h some =
+    ap (λ l. next_due l s b) h ∙ (if_true (b == b) (Some (goes_due rest s)) None (eq-eqb b b refl) ∙ ap Some (goes rest some ∙ ap (λ l. due l s) (sym (rest_due n w b rest h))))
+  where
+    goes : (l : List ℕ) → (l ≡ [] → ⊥) → goes_due l s ≡ due l s
+    goes [] none = absurd (none refl)
+    goes (x ∷ xs) none = refl

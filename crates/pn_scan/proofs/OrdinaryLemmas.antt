@@ -30,6 +30,7 @@ use Rattle.pn_scan.proofs.NextStateLemmas.{if_true, if_false, end_some}
 use Rattle.pn_scan.proofs.Tools.{head_is, tail_is, no_head}
 use Rattle.pn_scan.proofs.FedLemmas.{fed_more}
 use Rattle.pn_scan.proofs.ReadingLemmas.{take_whole}
+use Rattle.pn_facts.proofs.Lists.{front_passes}
 
 -- kinds of bytes
 
@@ -164,7 +165,7 @@ ordinary_low (contexts.Reference holder) x h = absurd (false≢true h)
 ordinary_low (contexts.Entity holder) x h = absurd (false≢true h)
 ordinary_low (contexts.NumberSign holder) x h = absurd (false≢true h)
 ordinary_low (contexts.Number holder base number any) x h = absurd (false≢true h)
-ordinary_low (contexts.Due left next) x h = absurd (false≢true h)
+ordinary_low (contexts.Due word read next) x h = absurd (false≢true h)
 ordinary_low (contexts.EndName read) x h = absurd (false≢true h)
 ordinary_low (contexts.Declaration stage spaced) x h = absurd (false≢true h)
 ordinary_low (contexts.BeforePartEquals part) x h = absurd (false≢true h)
@@ -202,7 +203,7 @@ ordinary_next (contexts.Reference holder) k p ys at x h = absurd (false≢true h
 ordinary_next (contexts.Entity holder) k p ys at x h = absurd (false≢true h)
 ordinary_next (contexts.NumberSign holder) k p ys at x h = absurd (false≢true h)
 ordinary_next (contexts.Number holder base number any) k p ys at x h = absurd (false≢true h)
-ordinary_next (contexts.Due left next) k p ys at x h = absurd (false≢true h)
+ordinary_next (contexts.Due word read next) k p ys at x h = absurd (false≢true h)
 ordinary_next (contexts.EndName read) k p ys at x h = absurd (false≢true h)
 ordinary_next (contexts.Declaration stage spaced) k p ys at x h = absurd (false≢true h)
 ordinary_next (contexts.BeforePartEquals part) k p ys at x h = absurd (false≢true h)
@@ -272,15 +273,6 @@ but_none mark false xs h = absurd (false≢true h)
 pub space_none : (spaced : Bool) (xs : List ℕ) → spaced ≡ false → prefix_len (ordinary_space spaced) xs ≡ 0
 space_none true xs h = absurd (false≢true (sym h))
 space_none false xs h = never_any xs
-
--- the front that passes a test
-pub front_passes : (p : ℕ → Bool) (xs : List ℕ) → list_all p (take (prefix_len p xs) xs) ≡ true
-front_passes p [] = refl
-front_passes p (x ∷ xs) = go (p x) refl (front_passes p xs)
-  where
-    go : (b : Bool) → p x ≡ b → list_all p (take (prefix_len p xs) xs) ≡ true → list_all p (take (cond b (1 + prefix_len p xs) 0) (x ∷ xs)) ≡ true
-    go true e h = rw (one-add, e) h
-    go false e h = refl
 
 -- bytes that stand for themselves were taken
 pub ordinary_more : (tree : OpenTree) (kept kept2 : Kept) (context : Context) (opened : Open) (count count2 : ℕ) (b xs : List ℕ) → IsReading tree kept context opened count b → open_bytes opened ≡ []

@@ -1,5 +1,5 @@
 -- Which state of the machine a context is in a nesting, and which nestings admit a context.
-use Rattle.std.specs.Prelude.{◌≡◌, ◌⊎◌, ℕ, ◌<◌, ◌≤◌, List, Bool, true, false, ◌==◌, [], drop, Option, Some, None, if◌then◌else◌}
+use Rattle.std.specs.Prelude.{◌≡◌, ◌⊎◌, ℕ, ◌<◌, ◌≤◌, List, Bool, true, false, ◌==◌, [], ◌∷◌, codes, drop, Option, Some, None, if◌then◌else◌}
 use Rattle.pn_markup.specs.Bytes.{is_space}
 use Rattle.pn_text.specs.Characters.{is_text, is_name}
 use Rattle.pn_tree.specs.Elements.{attr_value}
@@ -15,6 +15,8 @@ use Rattle.pn_scan.specs.declared.context.Stage.{Stage}
 use Rattle.pn_scan.specs.declared.context.Stage.TheVariants as stages
 use Rattle.pn_scan.specs.declared.context.Holder.{Holder}
 use Rattle.pn_scan.specs.declared.context.Holder.TheVariants as holders
+use Rattle.pn_scan.specs.declared.context.Word.{Word}
+use Rattle.pn_scan.specs.declared.context.Word.TheVariants as words
 use Rattle.pn_scan.specs.declared.context.Then.{Then}
 use Rattle.pn_scan.specs.declared.context.Then.TheVariants as thens
 use Rattle.pn_scan.specs.declared.context.Context.{Context}
@@ -41,6 +43,16 @@ stage_of stages.Nothing = m.none_due
 abbrev pub holder_of : Nesting → List ℕ → List ℕ → Holder → m.Holder
 holder_of p name value holders.Content = m.of_content (levels_of p) (inner_of p) (outer_of p)
 holder_of p name value (holders.Value quote) = m.of_value (levels_of p) (outer_of p) (inner_of p) name quote value
+
+-- the bytes of a word
+abbrev pub bytes_of : Word → List ℕ
+bytes_of words.End = codes ">"
+bytes_of words.Dash = codes "-"
+bytes_of words.Mark = 0xBB ∷ 0xBF ∷ []
+bytes_of words.Section = codes "CDATA["
+bytes_of words.Version = codes "ersion"
+bytes_of words.Encoding = codes "ncoding"
+bytes_of words.Standalone = codes "tandalone"
 
 -- the state behind what is due
 abbrev pub then_of : Nesting → Then → State
@@ -79,7 +91,7 @@ state_of p k (contexts.Reference holder) = m.at_reference (holder_of p k.name.it
 state_of p k (contexts.Entity holder) = m.in_entity (holder_of p k.name.items k.text.items holder) k.entity.items
 state_of p k (contexts.NumberSign holder) = m.at_number (holder_of p k.name.items k.text.items holder)
 state_of p k (contexts.Number holder base number any) = m.in_number (holder_of p k.name.items k.text.items holder) base number any
-state_of p k (contexts.Due left next) = m.due left.now (then_of p next)
+state_of p k (contexts.Due word read next) = m.due (drop read (bytes_of word)) (then_of p next)
 state_of p k (contexts.EndName read) = end_of p read
 state_of p k (contexts.Declaration stage spaced) = m.in_declaration (stage_of stage) spaced
 state_of p k (contexts.BeforePartEquals part) = m.before_part_equals (part_of part)
@@ -133,7 +145,7 @@ Admits p (contexts.Reference holder) = AdmitsHolder p holder
 Admits p (contexts.Entity holder) = AdmitsHolder p holder
 Admits p (contexts.NumberSign holder) = AdmitsHolder p holder
 Admits p (contexts.Number holder base number any) = AdmitsHolder p holder × FitsNumber base number
-Admits p (contexts.Due left next) = (left.now ≡ [] → ⊥) × AdmitsThen p next
+Admits p (contexts.Due word read next) = (drop read (bytes_of word) ≡ [] → ⊥) × AdmitsThen p next
 Admits p (contexts.EndName read) = is_inside p ≡ true
 Admits p (contexts.Declaration stage spaced) = p ≡ before
 Admits p (contexts.BeforePartEquals part) = p ≡ before
@@ -159,7 +171,7 @@ is_rare (contexts.Tag spaced) = false
 is_rare contexts.Attribute = false
 is_rare contexts.BehindEquals = false
 is_rare (contexts.Value quote cr) = false
-is_rare (contexts.Due left next) = false
+is_rare (contexts.Due word read next) = false
 is_rare (contexts.EndName read) = false
 is_rare _ = true
 

@@ -46,7 +46,7 @@ pub(crate) fn advance(
         Context::Attribute => attribute(tree, kept, at, byte),
         Context::BehindEquals => Ok(quote(kept, byte)),
         Context::Value { quote, cr } => value(tree, kept, quote, cr, byte),
-        Context::Due { left, then } => Ok(due(kept, left, then, byte)),
+        Context::Due { word, read, then } => Ok(due(kept, word, read, then, byte)),
         Context::EndName { read } => Ok(end_name(tree, read, at, byte)),
         other => advance_rare(alloc, tree, kept, other, at, byte),
     }

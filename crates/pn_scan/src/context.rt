@@ -1,5 +1,8 @@
 //! What is under way between two bytes.
 
+ghost use Rattle.std.specs.Prelude.{◌≡◌, ◌+◌, ◌≤◌, length, drop};
+ghost use Rattle.pn_scan.specs.Contexts.{bytes_of};
+
 use std::alloc::Global;
 
 /// How many brackets a run ends in, two at most.
@@ -33,6 +36,53 @@ pub(crate) enum Stage {
 pub(crate) enum Holder {
     Content,
     Value { quote: u8 },
+}
+
+/// The bytes that have to follow one that tells which they are.
+#[derive(Clone, Copy)]
+pub(crate) enum Word {
+    /// The `>` that ends a tag, a comment, an instruction or the declaration.
+    End,
+    /// The second `-` of `<!--`.
+    Dash,
+    /// A byte order mark behind its first byte.
+    Mark,
+    /// `CDATA[`.
+    Section,
+    /// `version` behind its first byte.
+    Version,
+    /// `encoding` behind its first byte.
+    Encoding,
+    /// `standalone` behind its first byte.
+    Standalone,
+}
+
+impl Word {
+    fn bytes(self) -> &'static [u8]
+        ensures { result.now ≡ bytes_of self }
+    {
+        match self {
+            Word::End => b">",
+            Word::Dash => b"-",
+            Word::Mark => b"\xBB\xBF",
+            Word::Section => b"CDATA[",
+            Word::Version => b"ersion",
+            Word::Encoding => b"ncoding",
+            Word::Standalone => b"tandalone",
+        }
+    }
+
+    /// Its bytes behind so many of them.
+    pub(crate) fn left(self, read: usize) -> &'static [u8]
+        ensures left { result.now ≡ drop read (bytes_of self) }
+        ensures fits { read + length result.now ≤ usize.MAX }
+    {
+        let bytes = self.bytes();
+        if bytes.len() <= read {
+            return b"";
+        }
+        &bytes[read..]
+    }
 }
 
 /// What follows bytes that are due.
@@ -126,9 +176,10 @@ pub(crate) enum Context {
         number: u32,
         any: bool,
     },
-    /// These bytes are due.
+    /// A word is due, behind so many bytes of it.
     Due {
-        left: &'static [u8],
+        word: Word,
+        read: usize,
         then: Then,
     },
     /// In an end tag, behind so many bytes of its name.

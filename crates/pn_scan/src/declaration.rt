@@ -13,7 +13,7 @@ ghost use Rattle.pn_scan.specs.NextState.{next_state, next_in_declaration, next_
 ghost use Rattle.pn_scan.specs.Contexts.{state_of, stage_of, part_of, Admits};
 
 use crate::bytes::{is_quote_byte, is_space_byte};
-use crate::context::{Context, Kept, Part, Stage, Then};
+use crate::context::{Context, Kept, Part, Stage, Then, Word};
 use crate::reference::is_front;
 use std::alloc::{AllocError, Global};
 
@@ -62,19 +62,22 @@ fn begin_part(stage: Stage, byte: u8) -> Option<Context>
 {
     if byte == b'v' && may_begin(stage, Part::Version) {
         return Some(Context::Due {
-            left: b"ersion",
+            word: Word::Version,
+            read: 0,
             then: Then::BeforeEquals(Part::Version),
         });
     }
     if byte == b'e' && may_begin(stage, Part::Encoding) {
         return Some(Context::Due {
-            left: b"ncoding",
+            word: Word::Encoding,
+            read: 0,
             then: Then::BeforeEquals(Part::Encoding),
         });
     }
     if byte == b's' && may_begin(stage, Part::Standalone) {
         return Some(Context::Due {
-            left: b"tandalone",
+            word: Word::Standalone,
+            read: 0,
             then: Then::BeforeEquals(Part::Standalone),
         });
     }
@@ -94,7 +97,8 @@ pub(crate) fn declaration(stage: Stage, spaced: bool, byte: u8) -> Option<Contex
     }
     if closes(stage, byte) {
         return Some(Context::Due {
-            left: b">",
+            word: Word::End,
+            read: 0,
             then: Then::Between,
         });
     }

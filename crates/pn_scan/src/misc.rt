@@ -1,16 +1,16 @@
 //! What stands outside the root, what a `<` begins, comments and processing instructions.
 
-ghost use Rattle.std.specs.Prelude.{◌≡◌, false, [], Some, IfSome, IfOk};
+ghost use Rattle.std.specs.Prelude.{◌≡◌, false, [], drop, Some, IfSome, IfOk};
 ghost use Rattle.std.specs.Option.{option_map};
 ghost use Rattle.pn_text.specs.Characters.{is_name_part};
 ghost use Rattle.pn_markup.specs.Misc.{is_xml};
 ghost use Rattle.pn_scan.specs.State.{Nesting, at_start};
 ghost use Rattle.pn_scan.specs.NextState.{next_state, next_outside, next_at_markup, next_at_bang, next_in_comment, next_in_target, next_in_instruction, next_due};
 ghost use Rattle.pn_scan.specs.Nestings.{IsWhere, IsRoom};
-ghost use Rattle.pn_scan.specs.Contexts.{state_of, then_of, Admits, AdmitsThen};
+ghost use Rattle.pn_scan.specs.Contexts.{bytes_of, state_of, then_of, Admits, AdmitsThen};
 
 use crate::bytes::{begin_name, begins_name, continues_name, is_space_byte};
-use crate::context::{Brackets, Context, Kept, Stage, Then};
+use crate::context::{Brackets, Context, Kept, Stage, Then, Word};
 use crate::open_tree::Where;
 use std::alloc::AllocError;
 
@@ -34,19 +34,23 @@ fn context_behind(kept: &mut Kept, then: Then) -> Context
     }
 }
 
-/// A byte where these bytes are due.
-pub(crate) fn due(kept: &mut Kept, left: &'static [u8], then: Then, byte: u8) -> Option<Context>
-    ensures state { (p : Nesting) → option_map (state_of p kept.new) result ≡ next_due left.now (then_of p then) byte }
+/// A byte where a word is due, behind so many bytes of it.
+pub(crate) fn due(kept: &mut Kept, word: Word, read: usize, then: Then, byte: u8) -> Option<Context>
+    ensures state { (p : Nesting) → option_map (state_of p kept.new) result ≡ next_due (drop read (bytes_of word)) (then_of p then) byte }
     ensures fits { (p : Nesting) → AdmitsThen p then → IfSome result (Admits p) }
 {
-    let (first, rest) = left.split_first()?;
+    let (first, rest) = word.left(read).split_first()?;
     if *first != byte {
         return None;
     }
     if rest.is_empty() {
         return Some(context_behind(kept, then));
     }
-    Some(Context::Due { left: rest, then })
+    Some(Context::Due {
+        word,
+        read: read + 1,
+        then,
+    })
 }
 
 /// A byte before the root, where a declaration may still come or not.
@@ -70,7 +74,8 @@ pub(crate) fn start(at: u64, byte: u8) -> Option<Context>
 {
     if byte == 0xEF {
         return Some(Context::Due {
-            left: b"\xBB\xBF",
+            word: Word::Mark,
+            read: 0,
             then: Then::First,
         });
     }
@@ -84,13 +89,15 @@ pub(crate) fn bang(nesting: Where, byte: u8) -> Option<Context>
 {
     if byte == b'-' {
         return Some(Context::Due {
-            left: b"-",
+            word: Word::Dash,
+            read: 0,
             then: Then::Comment,
         });
     }
     match nesting {
         Where::Within if byte == b'[' => Some(Context::Due {
-            left: b"CDATA[",
+            word: Word::Section,
+            read: 0,
             then: Then::Section,
         }),
         _ => None,
@@ -107,7 +114,8 @@ pub(crate) fn comment(dash: bool, byte: u8) -> Context
     }
     if dash {
         return Context::Due {
-            left: b">",
+            word: Word::End,
+            read: 0,
             then: Then::Between,
         };
     }
@@ -155,7 +163,8 @@ fn behind_target(nesting: Where, first: bool, name: &[u8], byte: u8) -> Option<C
     }
     if byte == b'?' {
         return Some(Context::Due {
-            left: b">",
+            word: Word::End,
+            read: 0,
             then: Then::Between,
         });
     }

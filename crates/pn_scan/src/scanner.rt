@@ -34,6 +34,12 @@ pub enum ScanFault {
 }
 
 /// Reads a document from bytes in pieces, in one pass, and builds its tree on the way.
+///
+/// Time is in proportion to the bytes. So is memory, for every input, with 50 bytes for each byte that
+/// was read at most. Texts and elements in turns take most: `x<b/>` fills 82 bytes of the tables of
+/// `Builder` with 5, its two kids twice, which is 17 for each, and the room in a table and the table
+/// from before while it grows make three times that. Other documents take less: a plain net 3 bytes
+/// for each of its own, one long value 2.
 #[derive(Drop)]
 pub struct Scanner {
     alloc: Global,
@@ -67,20 +73,19 @@ fn front_of(piece: &[u8], room: u64) -> &[u8]
     &piece[..room as usize]
 }
 
-/// What is under way with a run begun between two pieces within an element.
-fn begin_run(tree: &OpenTree, kept: &mut Kept, context: Context) -> Context
+/// Begins a run where what is under way stands between two pieces within an element.
+fn begin_run(tree: &OpenTree, kept: &mut Kept, context: &mut Context)
     requires { Belongs tree.now }
-    ensures state { state_of (nesting_of tree.now) kept.new result ≡ state_of (nesting_of tree.now) kept.old context }
-    ensures fits { Admits (nesting_of tree.now) context → Admits (nesting_of tree.now) result }
+    ensures state { state_of (nesting_of tree.now) kept.new context.new ≡ state_of (nesting_of tree.now) kept.old context.old }
+    ensures fits { Admits (nesting_of tree.now) context.old → Admits (nesting_of tree.now) context.new }
 {
-    if matches!(context, Context::Between) && matches!(tree.nesting(), Where::Within) {
+    if matches!(*context, Context::Between) && matches!(tree.nesting(), Where::Within) {
         kept.text.clear();
-        return Context::Run {
+        *context = Context::Run {
             brackets: Brackets::Zero,
             cr: false,
         };
     }
-    context
 }
 
 impl Scanner {
@@ -142,7 +147,7 @@ impl Scanner {
         let Open::Nothing = self.opened else {
             return Ok(0);
         };
-        self.context = begin_run(&self.tree, &mut self.kept, self.context);
+        begin_run(&self.tree, &mut self.kept, &mut self.context);
         let front = front_of(piece, BYTES - self.count);
         let ordinary = take_ordinary(&mut self.kept, self.context, front)?;
         self.count += ordinary as u64;
@@ -205,8 +210,8 @@ impl Scanner {
         }
     }
 
-    /// Takes bytes at the front of a piece; answers how many: those that stand for themselves here,
-    /// or else one.
+    /// Takes bytes at the front of a piece; answers how many: those that stand for themselves here, and
+    /// the one behind them.
     fn take_front(&mut self, piece: &[u8]) -> usize
         requires read { (b : List ℕ) × HasRead self.old b }
         requires some { 0 < length piece.now }
@@ -216,11 +221,11 @@ impl Scanner {
         ensures again { (f : ScanFault) → fault_of self.old ≡ Some f → fault_of self.new ≡ Some f }
     {
         let ordinary = self.take_ordinary(piece);
-        if ordinary > 0 {
+        if ordinary == piece.len() {
             return ordinary;
         }
-        self.take(piece[0]);
-        1
+        self.take(piece[ordinary]);
+        ordinary + 1
     }
 
     /// The fault that was found, if any.

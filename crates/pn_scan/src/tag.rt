@@ -9,7 +9,7 @@ ghost use Rattle.pn_scan.specs.State.{Nesting, in_name};
 ghost use Rattle.pn_scan.specs.Contexts.{state_of, end_state, end_of, IsTag, Admits};
 
 use crate::bytes::{begin_name, begins_name, continues_name, is_space_byte};
-use crate::context::{Context, Kept, Then};
+use crate::context::{Context, Kept, Then, Word};
 use crate::open_tree::OpenTree;
 use std::alloc::AllocError;
 
@@ -33,7 +33,8 @@ pub(crate) fn tag(
     if byte == b'/' {
         tree.end();
         return Ok(Some(Context::Due {
-            left: b">",
+            word: Word::End,
+            read: 0,
             then: Then::Between,
         }));
     }

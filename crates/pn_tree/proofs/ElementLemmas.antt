@@ -1,7 +1,7 @@
 -- The equations of elements and of their texts.
-use Rattle.std.proofs.Common.{◌≡◌, ℕ, Bool, true, false, List, ◌++◌, codes, map, refl, sym, ap, ◌∙◌}
+use Rattle.std.proofs.Common.{◌≡◌, ℕ, Bool, true, false, not, ◌&&◌, List, [], ◌∷◌, ◌++◌, codes, map, refl, sym, ap, ◌∙◌}
 use Rattle.std.specs.List.{flat_map}
-use Rattle.pn_tree.specs.Elements.{is_text_kid, is_kid, is_kid_layer, is_text_layer, is_kid_text}
+use Rattle.pn_tree.specs.Elements.{are_apart, begins_with_text, is_text_kid, is_kid, is_kid_layer, is_text_layer, is_kid_text}
 use Rattle.pn_tree.specs.Canonical.{attr_text, content_text, child_step, element_step, element_text, child_text, escaped_text}
 use Rattle.pn_tree.specs.declared.element.Element.{Element}
 use Rattle.pn_tree.specs.declared.element.Child.TheOpen as layer
@@ -21,6 +21,11 @@ is_text_kid-element e = ap is_text_layer (out_element e)
 
 pub is_text_kid-text : (t : List ℕ) → is_text_kid (children.Text t) ≡ true
 is_text_kid-text t = ap is_text_layer (out_text t)
+
+-- of elements alone no two kids are texts side by side
+pub elements_apart : (es : List Element) → are_apart (map children.Element es) ≡ true
+elements_apart [] = refl
+elements_apart (e ∷ es) = ap (λ b. not (b && begins_with_text (map children.Element es)) && are_apart (map children.Element es)) (is_text_kid-element e) ∙ elements_apart es
 
 pub is_kid-element : (test : Element → Bool) (e : Element) → is_kid test (children.Element e) ≡ test e
 is_kid-element test e = ap (is_kid_layer test) (out_element e)

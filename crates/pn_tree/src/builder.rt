@@ -10,6 +10,11 @@ use std::marker::Model;
 /// Each call that may want memory answers `AllocError` for nothing else, also where one of the tree's
 /// tables would pass 2^32 - 1 places: bytes of names and texts, attributes, kids or elements. After
 /// that a builder may only be dropped.
+///
+/// Memory is in proportion to what was given. What is filled is one byte for each byte of a name or a
+/// text, 32 for an element, 16 for an attribute and 24 for a kid, which stands twice until the element
+/// around it ends. A table has room for at most twice what fills it, and while it grows the table from
+/// before stands beside it: so the constant is 3 times these figures at most.
 #[derive(Debug, Drop)]
 pub struct Builder {
     site: Site,

@@ -6,9 +6,8 @@ use std::marker::Model;
 /// profile. Contracts see it as its root.
 ///
 /// A tree is four flat tables: the bytes of its names and texts, its attributes, its kids and its
-/// elements. Besides the bytes an element takes 32 bytes and an attribute 16, and each kid 12; while it
-/// is built a table may have room for twice as much, and the kids stand twice. Dropping a tree is one
-/// call a table.
+/// elements. Besides the bytes an element takes 32 bytes and an attribute 16, and each kid 12; a table
+/// may have room for twice as much. Dropping a tree is one call a table.
 #[derive(Debug, Drop)]
 pub struct Tree {
     store: Store,
