@@ -9,7 +9,7 @@ mod ordinals;
 mod sizes;
 mod values;
 
-pub use members::has_value;
+pub use members::{has_value, is_text};
 pub use ordinals::ordinal;
 pub use sizes::size;
 pub use values::nth;

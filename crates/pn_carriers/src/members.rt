@@ -109,7 +109,7 @@ fn is_between(start: i64, end: i64, value: &Value) -> bool
     }
 }
 
-/// Whether `value` is a text of characters that a document may have (XML 1.0, 2.2).
+/// Whether `value` is a text of such characters.
 fn is_document_text(value: &Value) -> bool
     ensures { result ≡ is_document_text (out-Value value.now) }
 {
@@ -119,7 +119,8 @@ fn is_document_text(value: &Value) -> bool
     }
 }
 
-fn is_text(text: &str) -> bool
+/// Whether all characters of a text are those that a document may have (XML 1.0, 2.2).
+pub fn is_text(text: &str) -> bool
     ensures { result ≡ is_text text.now }
 {
     text.chars().all(is_character)

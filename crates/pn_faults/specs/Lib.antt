@@ -3,3 +3,4 @@ pub mod Order
 pub mod Least
 pub mod Standing
 pub mod Walks
+pub mod Rising

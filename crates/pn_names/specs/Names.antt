@@ -114,7 +114,6 @@ variable_number (declared.Variable number) = Some number
 variable_number (declared.Constant c) = None
 
 -- the number of the variable of this id
--- the id of a variable
 abbrev pub variable_named : List Declaration → List ℕ → Option ℕ
 variable_named items id = option_and_then variable_number (meaning_of items id)
 

@@ -10,6 +10,7 @@ pub mod Options
 pub mod MakeLemmas
 pub mod Meanings
 pub mod NameLemmas
+pub mod NamedSortsLemmas
 pub mod NamingLemmas
 pub mod OffsetLemmas
 pub mod ResolveLemmas

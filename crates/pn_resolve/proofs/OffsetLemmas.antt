@@ -1,5 +1,5 @@
 -- Offsets have no part in names and in sorts.
-use Rattle.std.proofs.Common.{◌≡◌, ℕ, zero, suc, List, [], ◌∷◌, ◌++◌, map, Option, None, Some, refl, sym, ap, ◌∙◌}
+use Rattle.std.proofs.Common.{◌≡◌, ℕ, zero, suc, List, [], ◌∷◌, ◌++◌, map, Option, None, Some, length, refl, sym, ap, ◌∙◌}
 use Rattle.std.specs.List.{Contains, slice_get}
 use Rattle.std.specs.Option.{option_and_then, option_map}
 use Rattle.std.proofs.lemmas.Option.{slice_get-map}
@@ -17,7 +17,7 @@ use Rattle.pn_syntax.specs.declared.sort_expr.SortNode.TheFolds.{fold-SortNode, 
 use Rattle.pn_values.specs.declared.sort.Sort.{Sort}
 use Rattle.pn_values.specs.declared.sort.Sort.TheVariants as sorts
 use Rattle.pn_ids.specs.Names.{named_in}
-use Rattle.pn_names.specs.Names.{constant_id, constant_ids, element_id, id_of, names_from, names_in, numbered, own_name, sort_named, sort_place, with_variable}
+use Rattle.pn_names.specs.Names.{constant_id, constant_ids, element_id, id_of, names_from, names_in, numbered, own_name, sort_named, sort_place, widths_of, with_variable}
 use Rattle.pn_facts.proofs.Contained.{contains_first, contains_next}
 use Rattle.pn_resolve.specs.Meaning.{all_sorts, declared_sort, meaning, sort_at_place, sort_with, Resolves}
 use Rattle.pn_resolve.proofs.Expressions.{NodeLayer, IsIn, expr_ind, sort_at}
@@ -26,10 +26,11 @@ use Rattle.pn_resolve.proofs.Meanings.{meaning_next, meaning_none}
 abbrev bare_node : SortNode → SortNode
 bare_node = fold-SortNode SortNode SortExpr roll-SortNode at_zero
 
-abbrev bare_layer : NodeLayer → NodeLayer
+abbrev pub bare_layer : NodeLayer → NodeLayer
 bare_layer = map-SortNode SortNode SortExpr SortNode SortExpr bare_node sort_without_offsets
 
-bare_out : (e : SortExpr) (l : NodeLayer) → out-SortNode e.node ≡ l → out-SortNode (sort_without_offsets e).node ≡ bare_layer l
+-- what a sort expression without offsets is, by what it is with them
+pub bare_out : (e : SortExpr) (l : NodeLayer) → out-SortNode e.node ≡ l → out-SortNode (sort_without_offsets e).node ≡ bare_layer l
 bare_out e l is =
     ap (λ (x : SortExpr). out-SortNode x.node) (fold_out-SortExpr SortNode SortExpr roll-SortNode at_zero e)
     ∙ ap out-SortNode (fold_out-SortNode SortNode SortExpr roll-SortNode at_zero e.node)
@@ -91,6 +92,10 @@ ids_bare (declarations.Named id name (bodies.Finite constants) at) = constants_b
 ids_bare (declarations.Named id name (bodies.Cyclic constants) at) = constants_bare constants
 ids_bare (declarations.Variable id name sort at) = refl
 ids_bare (declarations.Partition id name sort elements at) = elements_bare elements
+
+pub widths_bare : (ds : List Declaration) → widths_of (map declaration_without_offsets ds) ≡ widths_of ds
+widths_bare [] = refl
+widths_bare (d ∷ ds) = λ i. length (ids_bare d i) ∷ widths_bare ds i
 
 id_bare : (d : Declaration) → id_of (declaration_without_offsets d) ≡ id_of d
 id_bare (declarations.Named id name body at) = refl

@@ -2,6 +2,7 @@ pub mod Extents
 pub mod Links
 pub mod Listing
 pub mod Meaning
+pub mod NamedSorts
 pub mod Naming
 pub mod Standing
 pub mod Tables

@@ -1,5 +1,5 @@
 -- Sorts that name enumerations and partitions of these declarations only: what is asked of a sort that is made by hand.
-use Rattle.std.specs.Prelude.{◌≡◌, ℕ, List, Bool, true, false, Option, Some, None}
+use Rattle.std.specs.Prelude.{◌≡◌, List, Bool, true, false, Option, Some, None}
 use Rattle.std.specs.List.{slice_get, list_all}
 use Rattle.pn_syntax.specs.declared.declaration.Declaration.{Declaration}
 use Rattle.pn_syntax.specs.declared.declaration.Declaration.TheVariants as declarations

@@ -7,6 +7,7 @@ ghost use Rattle.pn_resolve.specs.Meaning.{all_sorts, range_sort, sort_with};
 ghost use Rattle.pn_resolve.specs.Tables.{kept_by, sort_in, within};
 
 use crate::Extent;
+use crate::named_sorts::NamedSorts;
 use pn_names::Index;
 use pn_syntax::{SortExpr, SortNode};
 use pn_text::Text;
@@ -19,7 +20,7 @@ use std::alloc::{AllocError, Global};
 pub(crate) fn build_within(
     alloc: Global,
     index: &Index,
-    sorts: &[Option<Sort>],
+    sorts: &NamedSorts,
     expr: &SortExpr,
     extent: Extent,
 ) -> Result<Option<Sort>, AllocError>
@@ -37,7 +38,7 @@ pub(crate) fn build_within(
 fn build(
     alloc: Global,
     index: &Index,
-    sorts: &[Option<Sort>],
+    sorts: &NamedSorts,
     expr: &SortExpr,
 ) -> Result<Option<Sort>, AllocError>
     ensures { IfOk result (λ s. s ≡ sort_with (kept_by index.now sorts.now) expr.now) }
@@ -61,7 +62,7 @@ fn build(
 fn product(
     alloc: Global,
     index: &Index,
-    sorts: &[Option<Sort>],
+    sorts: &NamedSorts,
     parts: &[SortExpr],
 ) -> Result<Option<Sort>, AllocError>
     ensures { IfOk result (λ s. s ≡ option_map variants.Product (all_sorts (map (sort_with (kept_by index.now sorts.now)) parts.now))) }
@@ -77,7 +78,7 @@ fn product(
 fn list(
     alloc: Global,
     index: &Index,
-    sorts: &[Option<Sort>],
+    sorts: &NamedSorts,
     item: &SortExpr,
 ) -> Result<Option<Sort>, AllocError>
     ensures { IfOk result (λ s. s ≡ option_map variants.List (sort_with (kept_by index.now sorts.now) item.now)) }
@@ -93,7 +94,7 @@ fn list(
 fn build_all(
     alloc: Global,
     index: &Index,
-    sorts: &[Option<Sort>],
+    sorts: &NamedSorts,
     parts: &[SortExpr],
 ) -> Result<Option<Items<Sort>>, AllocError>
     ensures { IfOk result (λ all. all ≡ all_sorts (map (sort_with (kept_by index.now sorts.now)) parts.now)) }
@@ -122,7 +123,7 @@ fn range(start: i64, end: i64) -> Option<Sort>
 fn named(
     alloc: Global,
     index: &Index,
-    sorts: &[Option<Sort>],
+    sorts: &NamedSorts,
     name: &Text,
 ) -> Result<Option<Sort>, AllocError>
     ensures { IfOk result (λ s. s ≡ kept_by index.now sorts.now name.now) }
@@ -134,14 +135,10 @@ fn named(
 }
 
 /// The sort at a place, none where there is no such place.
-fn copy_at(alloc: Global, sorts: &[Option<Sort>], place: u32) -> Result<Option<Sort>, AllocError>
+fn copy_at(alloc: Global, sorts: &NamedSorts, place: u32) -> Result<Option<Sort>, AllocError>
     ensures { IfOk result (λ s. s ≡ sort_in sorts.now place) }
 {
-    let place = place as usize;
-    if place >= sorts.len() {
-        return Ok(None);
-    }
-    match &sorts[place] {
+    match sorts.get(place) {
         Some(sort) => Ok(Some(sort.copy(alloc)?)),
         None => Ok(None),
     }

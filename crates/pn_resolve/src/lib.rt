@@ -7,6 +7,7 @@ mod extent;
 mod faults;
 pub mod laws;
 mod links;
+mod named_sorts;
 mod resolve;
 mod table;
 mod walk;

@@ -1,19 +1,21 @@
 //! The sorts of the declarations.
 
-ghost use Rattle.std.specs.Prelude.{◌≡◌, ◌<◌, ◌^◌, ℕ, length, Some, None, IfOk, OnOk};
+ghost use Rattle.std.specs.Prelude.{◌≡◌, ◌<◌, ◌^◌, ℕ, length, slice_set, Some, None, IfOk, OnOk};
 ghost use Rattle.std.specs.List.{slice_get};
 ghost use Rattle.std.specs.Option.{option_copied};
 ghost use Rattle.pn_syntax.specs.declared.declaration.Declaration.{Declaration};
 ghost use Rattle.pn_names.specs.Names.{names_of, AreNumbered};
-ghost use Rattle.pn_resolve.specs.Tables.{own_sort, own_extent, plain_expr, extents_with, sorts_with, extent_in, sort_in, IsTable};
+ghost use Rattle.pn_resolve.specs.Meaning.{sort_with};
+ghost use Rattle.pn_resolve.specs.Tables.{own_sort, own_extent, plain_expr, extents_with, sorts_with, extent_in, sort_in, IsTable, kept_by, within};
 
 use crate::Extent;
 use crate::build::build_within;
 use crate::links::{Sources, graph_of};
+use crate::named_sorts::NamedSorts;
 use crate::walk::walk;
 use pn_cycles::order_of;
 use pn_names::Index;
-use pn_syntax::{Declaration, SortBody, SortExpr};
+use pn_syntax::{Declaration, SortBody, SortExpr, SortNode};
 use pn_values::Sort;
 use std::alloc::{AllocError, Global};
 use std::marker::Model;
@@ -23,7 +25,7 @@ use std::marker::Model;
 #[derive(Debug, Drop)]
 pub struct Table {
     pub(crate) extents: Vec<Extent>,
-    pub(crate) sorts: Vec<Option<Sort>>,
+    pub(crate) sorts: NamedSorts,
 }
 
 impl Model for Table {
@@ -35,7 +37,7 @@ impl Model for Table {
 
     ghost coded = { Prim.hlevel (codes, sort.the_row.coded) };
 
-    ghost view = { λ table. record { extents = table.extents.items; sorts = table.sorts.items } };
+    ghost view = { λ table. record { extents = table.extents.items; sorts = table.sorts } };
 }
 
 impl Table {
@@ -83,10 +85,7 @@ impl Table {
         ensures none { option_copied result ≡ None → (items : List Declaration) (names : List (List ℕ × Declared)) → IsTable items names self.now
             → (e : SortExpr) → IsNameOf items place e → (f : Fault) × (StandsInSort items e f ⊎ StandsBesides items f) }
     {
-        match self.sorts.get(place as usize) {
-            Some(sort) => sort.as_ref(),
-            None => None,
-        }
+        self.sorts.get(place)
     }
 }
 
@@ -113,12 +112,12 @@ fn own_extent(place: u32, declaration: &Declaration) -> Extent
 }
 
 /// The sorts that are there by their places alone.
-fn own_sorts(alloc: Global, items: &[Declaration]) -> Result<Vec<Option<Sort>>, AllocError>
+fn own_sorts(alloc: Global, items: &[Declaration]) -> Result<NamedSorts, AllocError>
     requires { length items.now < 2 ^ 32 }
-    ensures sized { IfOk result (λ sorts. length sorts.items ≡ length items.now) }
-    ensures own { IfOk result (λ sorts. (place : ℕ) (d : Declaration) → slice_get items.now place ≡ Some d → sort_in sorts.items place ≡ own_sort place d) }
+    ensures sized { IfOk result (λ sorts. length sorts ≡ length items.now) }
+    ensures own { IfOk result (λ sorts. (place : ℕ) (d : Declaration) → slice_get items.now place ≡ Some d → sort_in sorts place ≡ own_sort place d) }
 {
-    let mut sorts = Vec::new(alloc);
+    let mut sorts = NamedSorts::new(alloc);
     for place in 0..items.len() {
         sorts.push(own_sort(place as u32, &items[place]))?;
     }
@@ -148,7 +147,7 @@ fn settle(
     is_cyclic: bool,
     place: usize,
     extents: &mut [Extent],
-    sorts: &mut [Option<Sort>],
+    sorts: &mut NamedSorts,
 ) -> Result<(), AllocError>
     requires extents { place < length extents.old }
     requires sorts { place < length sorts.old }
@@ -160,16 +159,49 @@ fn settle(
         Some(expr) => {
             if is_cyclic {
                 extents[place] = Extent::NoSort;
-                sorts[place] = None;
+                sorts.clear(place);
                 return Ok(());
             }
             let mut least = None;
             let extent = walk(alloc, index, extents, expr, &mut least)?;
-            let sort = build_within(alloc, index, sorts, expr, extent)?;
+            settle_sort(alloc, index, expr, extent, place, sorts)?;
             extents[place] = extent;
-            sorts[place] = sort;
             Ok(())
         }
+    }
+}
+
+/// Settles the sort of an expression of this extent. That of a name isn't built anew.
+fn settle_sort(
+    alloc: Global,
+    index: &Index,
+    expr: &SortExpr,
+    extent: Extent,
+    place: usize,
+    sorts: &mut NamedSorts,
+) -> Result<(), AllocError>
+    requires { place < length sorts.old }
+    ensures { OnOk result (sorts.new ≡ slice_set sorts.old place (within extent (sort_with (kept_by index.now sorts.old) expr.now))) }
+{
+    if let SortNode::User(name) = &expr.node {
+        settle_name(index, name.as_str(), extent, place, sorts);
+        return Ok(());
+    }
+    let sort = build_within(alloc, index, sorts, expr, extent)?;
+    sorts.set(place, sort)
+}
+
+/// Gives a place the sort of what a name means, where its extent keeps within the limits.
+fn settle_name(index: &Index, name: &str, extent: Extent, place: usize, sorts: &mut NamedSorts)
+    requires { place < length sorts.old }
+    ensures { sorts.new ≡ slice_set sorts.old place (within extent (kept_by index.now sorts.old name.now)) }
+{
+    match extent {
+        Extent::Fits { .. } => match index.sort_place(name) {
+            Some(other) => sorts.share(place, other),
+            None => sorts.clear(place),
+        },
+        _ => sorts.clear(place),
     }
 }
 

@@ -1,4 +1,5 @@
 pub mod MemberLemmas
 pub mod NameLemmas
+pub mod OrderLemmas
 pub mod TableLemmas
 pub mod SettleLemmas

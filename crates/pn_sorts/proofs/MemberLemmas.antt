@@ -8,10 +8,15 @@ use Rattle.pn_syntax.specs.declared.declaration.Declaration.TheVariants as decla
 use Rattle.pn_syntax.specs.declared.declaration.SortBody.TheVariants as bodies
 use Rattle.pn_values.specs.declared.sort.Sort.TheOpen as layer
 use Rattle.pn_values.specs.declared.sort.Sort.TheVariants as sorts
-use Rattle.pn_values.specs.declared.sort.Sort.TheVariants.{rolls-Enumeration, rolls-Partition}
+use Rattle.pn_values.specs.declared.sort.Sort.TheVariants.{rolls-Enumeration, rolls-Partition, rolls-Text}
 use Rattle.pn_values.specs.declared.sort.Sort.TheFolds.{fold-roll-Sort}
+use Rattle.pn_text.specs.Characters.{is_text}
 use Rattle.pn_values.specs.declared.value.Value.{Value}
-use Rattle.pn_carriers.specs.Members.{IsMember}
+use Rattle.pn_values.specs.declared.value.Value.TheOpen as value_layer
+use Rattle.pn_values.specs.declared.value.Value.TheVariants as values
+use Rattle.pn_values.specs.declared.value.Value.TheVariants.{rolls-Text as rolls-text-value}
+use Rattle.pn_values.specs.declared.value.Value.TheViews.{out-Value, out-roll-Value}
+use Rattle.pn_carriers.specs.Members.{IsMember, is_document_text, is_member, is_member_layer}
 use Rattle.pn_carriers.proofs.LayerLemmas.{member-enumeration, member-partition}
 use Rattle.pn_carriers.proofs.ValueLemmas.{constant_is}
 use Rattle.pn_names.specs.Names.{constant_ids, widths_of}
@@ -50,3 +55,10 @@ partition_member items place v names member =
     let there : is_such is_partition (slice_get items place) ≡ true =
     sym (fold-roll-Sort Bool (names_declared_layer items) (layer.Partition place)) ∙ ap (names_declared items) (rolls-Partition place) ∙ names in
     record { index = c.0; is = c.2; declared = id_there items place c.0 c.1; of_sort = partition_at place (slice_get items place) there }
+
+-- a text is of the sort of texts where its characters are those that a document may have
+pub member_text : (widths : List ℕ) (t : List ℕ) → is_member widths sorts.Text (values.Text t) ≡ is_text t
+member_text widths t =
+    ap (λ s. is_member widths s (values.Text t)) (sym rolls-Text)
+    ∙ ap (λ (test : Value → Bool). test (values.Text t)) (fold-roll-Sort (Value → Bool) (λ sort v. is_member_layer widths sort (out-Value v)) layer.Text)
+    ∙ ap is_document_text (ap out-Value (sym (rolls-text-value t)) ∙ out-roll-Value (value_layer.Text t))

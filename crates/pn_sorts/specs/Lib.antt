@@ -3,3 +3,4 @@ pub mod Lookups
 pub mod Kept
 pub mod Keeping
 pub mod Settling
+pub mod Order

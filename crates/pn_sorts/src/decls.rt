@@ -7,7 +7,7 @@ ghost use Rattle.pn_faults.specs.declared.fault.Refusal.{Refusal};
 use crate::kept::{Kept, sort_at};
 use crate::lookups::{constant_sort, entry, is_cyclic, place_of};
 use crate::settle::settle;
-use pn_carriers::{has_value, nth, ordinal, size};
+use pn_carriers::{has_value, is_text, nth, ordinal, size};
 use pn_faults::{Fault, Refusal};
 use pn_names::{Index, constant_id, declaration_id, variable_id, variable_places, widths};
 use pn_resolve::{ResolveFault, Table};
@@ -90,6 +90,8 @@ impl Decls {
     ghost use Rattle.pn_sorts.specs.Standing.{IsFaultless, Stands};
     ghost use Rattle.pn_sorts.specs.Keeping.{IsRefusedFor};
     ghost use Rattle.pn_values.specs.declared.sort.Sort.{Sort};
+    ghost use Rattle.pn_values.specs.declared.sort.Sort.TheVariants as sorts;
+    ghost use Rattle.pn_values.specs.declared.value.Value.TheVariants as values;
     ghost use Rattle.pn_sorts.specs.Lookups.{IsBaseSort, IsPartOf, IsVariableSort, base_expr, is_cyclic, sort_of_constant};
 
     /// The declarations of a document. The time is linear in them and in the sorts that keep within
@@ -251,6 +253,13 @@ impl Decls {
         ensures { result ≡ is_member (widths_of self.now) sort.now value.now }
     {
         has_value(&self.widths, sort, value)
+    }
+
+    /// Whether a text is of the sort of texts: its characters are those that a document may have.
+    pub fn has_text(&self, text: &str) -> bool
+        ensures { result ≡ is_member (widths_of self.now) sorts.Text (values.Text text.now) }
+    {
+        is_text(text)
     }
 
     /// The place of a value among the values of its sort.

@@ -1,12 +1,19 @@
 //! Laws of declarations, of their sorts and values, and of walks over faults. Each function does
 //! nothing; its contract is the law.
 
-ghost use Rattle.std.specs.Prelude.{ℕ, List};
+ghost use Rattle.std.specs.Prelude.{◌≡◌, ℕ, List, Some};
 ghost use Rattle.pn_carriers.specs.Members.{IsMember};
+ghost use Rattle.pn_faults.specs.declared.fault.Fault.{Fault};
+ghost use Rattle.pn_faults.specs.Rising.{Rise};
+ghost use Rattle.pn_faults.specs.Standing.{IsLeastOf};
 ghost use Rattle.pn_names.specs.Names.{widths_of};
 ghost use Rattle.pn_resolve.specs.Naming.{NamesDeclared};
+ghost use Rattle.pn_resolve.specs.Standing.{StandsInSort};
 ghost use Rattle.pn_sorts.specs.Lookups.{IsDeclaredConstant};
+ghost use Rattle.pn_sorts.specs.Order.{AreOrdered, offsets_of_sort};
+ghost use Rattle.pn_sorts.specs.Standing.{Stands};
 ghost use Rattle.pn_syntax.specs.declared.declaration.Declaration.{Declaration};
+ghost use Rattle.pn_syntax.specs.declared.sort_expr.SortExpr.{SortExpr};
 ghost use Rattle.pn_values.specs.declared.sort.Sort.TheVariants as sorts;
 ghost use Rattle.pn_values.specs.declared.value.Value.{Value};
 
@@ -25,4 +32,14 @@ pub fn members_are_declared()
         → IsMember (widths_of items) value (sorts.Enumeration place) → IsDeclaredConstant items place (sorts.Enumeration place) value }
     ensures partition { (items : List Declaration) (place : ℕ) (value : Value) → NamesDeclared items (sorts.Partition place)
         → IsMember (widths_of items) value (sorts.Partition place) → IsDeclaredConstant items place (sorts.Partition place) value }
+{}
+
+/// In declarations whose offsets rise in document order the least fault is one.
+pub fn the_least_fault_of_declarations_is_one()
+    ensures { (items : List Declaration) (f g : Fault) → AreOrdered items → IsLeastOf (Stands items) (Some f) → IsLeastOf (Stands items) (Some g) → f ≡ g }
+{}
+
+/// In a sort expression whose offsets rise in document order the least fault is one.
+pub fn the_least_fault_of_a_sort_is_one()
+    ensures { (items : List Declaration) (e : SortExpr) (f g : Fault) → Rise (offsets_of_sort e) → IsLeastOf (StandsInSort items e) (Some f) → IsLeastOf (StandsInSort items e) (Some g) → f ≡ g }
 {}

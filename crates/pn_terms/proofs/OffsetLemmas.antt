@@ -41,10 +41,6 @@ use Rattle.pn_terms.specs.Variables.{variables_in_layer, variables_in_term}
 
 -- ---- declarations without offsets
 
-widths_bare : (ds : List Declaration) → widths_of (map declaration_without_offsets ds) ≡ widths_of ds
-widths_bare [] = refl
-widths_bare (d ∷ ds) = λ i. length (resolved.ids_bare d i) ∷ widths_bare ds i
-
 cyclic_bare : (o : Option Declaration) → is_cyclic_in (option_map declaration_without_offsets o) ≡ is_cyclic_in o
 cyclic_bare None = refl
 cyclic_bare (Some (declarations.Named id name (bodies.Plain e) at)) = refl
@@ -144,7 +140,7 @@ module _ (items others : List Declaration) (same : map declaration_without_offse
   names_same = sym (resolved.names_bare 0 0 items) ∙ ap names_of same ∙ resolved.names_bare 0 0 others
 
   widths_same : widths_of items ≡ widths_of others
-  widths_same = sym (widths_bare items) ∙ ap widths_of same ∙ widths_bare others
+  widths_same = sym (resolved.widths_bare items) ∙ ap widths_of same ∙ resolved.widths_bare others
 
   -- what a place has without offsets
   place_same : (place : ℕ) → option_map declaration_without_offsets (slice_get items place) ≡ option_map declaration_without_offsets (slice_get others place)

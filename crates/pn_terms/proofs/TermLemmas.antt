@@ -1,6 +1,5 @@
 -- The outermost layer of a term, by what its node is; and what stands in all parts.
-use Rattle.std.proofs.Common.{◌≡◌, ℕ, ℤ, List, [], ◌∷◌, ◌++◌, map, Bool, refl, sym, ap, ◌∙◌}
-use Rattle.std.specs.List.{flat_map}
+use Rattle.std.proofs.Common.{◌≡◌, ℕ, ℤ, List, Bool, sym, ap, ◌∙◌}
 use Rattle.pn_operators.specs.declared.op.Op.{Op}
 use Rattle.pn_syntax.specs.declared.sort_expr.SortExpr.{SortExpr}
 use Rattle.pn_syntax.specs.declared.term.NumberSort.{NumberSort}
@@ -43,8 +42,3 @@ out_element n name arg is = ap out-TermNode (is ∙ sym (rolls-PartitionOf name 
 
 pub out_apply : (n : TermNode) (o : Op) (args : List Term) → n ≡ nodes.Apply o args → out-TermNode n ≡ layer.Apply o args
 out_apply n o args is = ap out-TermNode (is ∙ sym (rolls-Apply o args)) ∙ out-roll-TermNode (layer.Apply o args)
-
--- what stands in parts, part by part
-pub all_joined : {A : Type 0} (f : A → List ℕ) (xs : List A) → flat_map (λ vs. vs) (map f xs) ≡ flat_map f xs
-all_joined f [] = refl
-all_joined f (x ∷ xs) = ap (λ ys. f x ++ ys) (all_joined f xs)

@@ -5,9 +5,9 @@ ghost use Rattle.pn_faults.specs.declared.fault.Fault.{Fault};
 ghost use Rattle.pn_faults.specs.Standing.{IsLeastOf};
 ghost use Rattle.pn_syntax.specs.Offsets.{declaration_without_offsets};
 ghost use Rattle.pn_syntax.specs.TermOffsets.{term_without_offsets};
-ghost use Rattle.pn_terms.specs.Order.{IsOrdered};
+ghost use Rattle.pn_terms.specs.Order.{HasOrderedSorts, IsOrdered};
 ghost use Rattle.pn_terms.specs.Sorts.{HasSort};
-ghost use Rattle.pn_terms.specs.Standing.{StandsIn};
+ghost use Rattle.pn_terms.specs.Standing.{SortStandsIn, StandsIn};
 ghost use Rattle.pn_terms.specs.Variables.{variables_in_term};
 ghost use Rattle.pn_syntax.specs.declared.term.Term.{Term};
 ghost use Rattle.pn_terms.specs.declared.term_sort.TermSort.{TermSort};
@@ -26,6 +26,12 @@ pub fn what_has_a_sort_has_no_fault()
 /// In a term whose offsets rise in document order the least fault is one.
 pub fn the_least_fault_is_one()
     ensures { (items : List Declaration) (e : Term) (f g : Fault) → IsOrdered e → IsLeastOf (StandsIn items e) (Some f) → IsLeastOf (StandsIn items e) (Some g) → f ≡ g }
+{}
+
+/// In a term in whose sorts the offsets rise in document order, the least fault of those sorts is
+/// one.
+pub fn the_least_fault_of_its_sorts_is_one()
+    ensures { (items : List Declaration) (e : Term) (f g : Fault) → HasOrderedSorts e → IsLeastOf (SortStandsIn items e) (Some f) → IsLeastOf (SortStandsIn items e) (Some g) → f ≡ g }
 {}
 
 /// Terms that are equal but for their offsets have the same sort, in declarations that are equal

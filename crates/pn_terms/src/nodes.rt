@@ -132,19 +132,11 @@ pub(crate) fn text(
     ensures { IfOk result (λ o. IsTold (λ s. (is_good_text decls.now text.now ≡ true) × (s ≡ TermSort.Basis Sort.Text))
         (IsBadText decls.now text.now at) o least.old least.new) }
 {
-    if is_good_text(alloc, decls, text)? {
+    if decls.has_text(text.as_str()) {
         return Ok(Some(TermSort::Basis(Sort::Text)));
     }
     keep_least_at(least, alloc, Reason::BadConstant, at, "stringconstant")?;
     Ok(None)
-}
-
-/// Whether all characters of a text are those that a document may have.
-fn is_good_text(alloc: Global, decls: &Decls, text: &Text) -> Result<bool, AllocError>
-    ensures { IfOk result (λ b. b ≡ is_good_text decls.now text.now) }
-{
-    let value = Value::Text(text.copy(alloc)?);
-    Ok(decls.has_value(&Sort::Text, &value))
 }
 
 /// The sort of an expression without a fault.

@@ -1,4 +1,4 @@
-use Rattle.std.proofs.Common.{◌≡◌, ◌+◌, ◌<◌, rules, length, take, drop, get_or, Some, ◌++◌, ◌∙◌, refl, ap, sym, subst, arith}
+use Rattle.std.proofs.Common.{◌≡◌, ◌+◌, ◌<◌, rules, length, get_or, Some, ◌∙◌, refl, ap, sym, subst, arith}
 use Rattle.std.specs.List.{slice_get}
 use Rattle.std.proofs.lemmas.Option.{slice_get-get_or}
 use Rattle.pn_cycles.specs.Orders.{ListsEachOnce, StandBehindTargets}
@@ -23,7 +23,7 @@ loop-place-init c =
     let each = subst (ListsEachOnce (length c.in_ok-graph.graph)) (sym c.nodes-place-items.ensures) c.in_ok-order.ensures.nodes in
     let behind = subst (StandBehindTargets c.in_ok-graph.graph) (sym c.nodes-place-items.ensures) c.in_ok-order.ensures.order in
     first_progress c.args.items.now c.in_ok-graph.graph is c.nodes-place-items.result.now c.in_ok-order.order.on_cycle c.in_ok-order.ensures.on_cycle each behind
-    c.in_ok-extents.extents.items c.in_ok-sorts.sorts.items c.in_ok-extents.ensures.sized c.in_ok-sorts.ensures.sized c.in_ok-extents.ensures.own c.in_ok-sorts.ensures.own
+    c.in_ok-extents.extents.items c.in_ok-sorts.sorts c.in_ok-extents.ensures.sized c.in_ok-sorts.ensures.sized c.in_ok-extents.ensures.own c.in_ok-sorts.ensures.own
 
 pub loop-place-preserved : goal.loop-place-preserved
 loop-place-preserved c =
@@ -34,19 +34,17 @@ loop-place-preserved c =
     let plain = plain_expr c.index-items-place.result in
     let extents : c.settle.new.extents ≡ extents_with (names_of c.args.items.now) c.is_on_cycle.result place plain c.loop-place.extents.items =
     c.in_ok-settle.ensures.extents ∙ ap (extents_with c.args.index.now c.is_on_cycle.result place plain) c.deref_mut.ensures.value ∙ ap (λ n. extents_with n c.is_on_cycle.result place plain c.loop-place.extents.items) c.requires.index in
-    let sorts : c.settle.new.sorts ≡ sorts_with (names_of c.args.items.now) c.is_on_cycle.result place plain c.loop-place.extents.items c.loop-place.sorts.items =
-    c.in_ok-settle.ensures.sorts ∙ ap (λ xs. sorts_with c.args.index.now c.is_on_cycle.result place plain xs c.deref_mut-in-loop-place.result.now) c.deref_mut.ensures.value ∙ ap (sorts_with c.args.index.now c.is_on_cycle.result place plain c.loop-place.extents.items) c.deref_mut-in-loop-place.ensures.value ∙ ap (λ n. sorts_with n c.is_on_cycle.result place plain c.loop-place.extents.items c.loop-place.sorts.items) c.requires.index in
+    let sorts : c.settle.new.sorts ≡ sorts_with (names_of c.args.items.now) c.is_on_cycle.result place plain c.loop-place.extents.items c.loop-place.sorts =
+    c.in_ok-settle.ensures.sorts ∙ ap (λ xs. sorts_with c.args.index.now c.is_on_cycle.result place plain xs c.loop-place.sorts) c.deref_mut.ensures.value ∙ ap (λ n. sorts_with n c.is_on_cycle.result place plain c.loop-place.extents.items c.loop-place.sorts) c.requires.index in
     let inside : place < length c.args.items.now = search rules in
     let stands : slice_get c.args.items.now place ≡ Some c.index-items-place.result =
     slice_get-get_or c.args.items.now place c.index-items-place.result inside ∙ ap Some (sym c.index-items-place.is) in
     let next = next_progress c.args.items.now c.in_ok-graph.graph is c.nodes-place-items.result.now c.in_ok-order.order.on_cycle c.in_ok-order.ensures.on_cycle each behind
-    c.loop-place.place-index place c.index-items-place.result c.is_on_cycle.result c.loop-place.extents.items c.loop-place.sorts.items c.loop-place-test.true refl stands (sym c.is_on_cycle.ensures) c.loop-place.invariant in
+    c.loop-place.place-index place c.index-items-place.result c.is_on_cycle.result c.loop-place.extents.items c.loop-place.sorts c.loop-place-test.true refl stands (sym c.is_on_cycle.ensures) c.loop-place.invariant in
     let first : length c.settle.new.extents ≡ c.loop-place.extents.len = ap length extents ∙ next.sized_extents ∙ sym c.loop-place.invariant.sized_extents ∙ sym c.loop-place.extents.ok.0 in
-    let second : length c.settle.new.sorts ≡ c.loop-place.sorts.len = ap length sorts ∙ next.sized_sorts ∙ sym c.loop-place.invariant.sized_sorts ∙ sym c.loop-place.sorts.ok.0 in
-    subst (λ xs. Progress c.args.items.now c.nodes-place-items.result.now (c.loop-place.place-index + 1) xs (take c.loop-place.sorts.len (c.settle.new.sorts ++ drop (length c.settle.new.sorts) c.loop-place.sorts.items)))
+    subst (λ xs. Progress c.args.items.now c.nodes-place-items.result.now (c.loop-place.place-index + 1) xs c.settle.new.sorts)
     (sym (kept_whole c.settle.new.extents c.loop-place.extents.items c.loop-place.extents.len first ∙ extents))
-    (subst (λ xs. Progress c.args.items.now c.nodes-place-items.result.now (c.loop-place.place-index + 1) (extents_with (names_of c.args.items.now) c.is_on_cycle.result place plain c.loop-place.extents.items) xs)
-    (sym (kept_whole c.settle.new.sorts c.loop-place.sorts.items c.loop-place.sorts.len second ∙ sorts)) next)
+    (subst (λ xs. Progress c.args.items.now c.nodes-place-items.result.now (c.loop-place.place-index + 1) (extents_with (names_of c.args.items.now) c.is_on_cycle.result place plain c.loop-place.extents.items) xs) (sym sorts) next)
 
 pub returns : goal.returns
 returns c =
@@ -55,4 +53,4 @@ returns c =
     let behind = subst (StandBehindTargets c.in_ok-graph.graph) (sym c.nodes-place-items.ensures) c.in_ok-order.ensures.order in
     let end : c.loop-place.place-index ≡ length c.nodes-place-items.result.now = omega arith in
     table_is_right c.args.items.now c.in_ok-graph.graph is c.nodes-place-items.result.now c.in_ok-order.order.on_cycle c.in_ok-order.ensures.on_cycle each behind
-    c.loop-place.extents.items c.loop-place.sorts.items (subst (λ i. Progress c.args.items.now c.nodes-place-items.result.now i c.loop-place.extents.items c.loop-place.sorts.items) end c.loop-place.invariant) c.args.index.now c.requires.index
+    c.loop-place.extents.items c.loop-place.sorts (subst (λ i. Progress c.args.items.now c.nodes-place-items.result.now i c.loop-place.extents.items c.loop-place.sorts) end c.loop-place.invariant) c.args.index.now c.requires.index
