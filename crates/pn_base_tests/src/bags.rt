@@ -16,126 +16,130 @@ use std::test::Fail;
 /// The greatest count that a bag may have.
 const GREATEST: u64 = 9223372036854775807;
 
-#[derive(Clone, Copy, Debug, PartialEq, Eq, PartialOrd, Ord)]
-enum Letter {
-    A,
-    B,
-}
+/// Two keys.
+const A: u64 = 1;
+
+const B: u64 = 2;
 
 /// A key whose order is derived: a place, and a colour there.
-#[derive(Clone, Copy, Debug, PartialEq, Eq, PartialOrd, Ord)]
+#[derive(Clone, Copy, PartialEq, Eq, PartialOrd, Ord)]
 struct Token {
     place: u32,
     colour: u64,
 }
 
 /// Adds these counts of A and B.
-fn add_letters(bag: &mut Bag<Letter>, a: u64, b: u64) -> Result<(), BagFault> {
-    bag.add(Letter::B, b)?;
-    bag.add(Letter::A, a)
+fn add_counts(bag: &mut Bag<u64>, a: u64, b: u64) -> Result<(), BagFault> {
+    bag.add(B, b)?;
+    bag.add(A, a)
 }
 
 /// A bag with these counts of A and B.
-fn letters(alloc: Global, a: u64, b: u64) -> Result<Bag<Letter>, BagFault> {
+fn bag_of(alloc: Global, a: u64, b: u64) -> Result<Bag<u64>, BagFault> {
     let mut bag = Bag::new(alloc);
-    add_letters(&mut bag, a, b)?;
+    add_counts(&mut bag, a, b)?;
     Ok(bag)
 }
 
-fn has_letters(bag: &Bag<Letter>, a: u64, b: u64) -> bool {
-    bag.count(&Letter::A) == a && bag.count(&Letter::B) == b
+fn has_counts(bag: &Bag<u64>, a: u64, b: u64) -> bool {
+    bag.count(&A) == a && bag.count(&B) == b
 }
 
-fn refuses_two(rt: &impl Abort, alloc: Global, bag: &mut Bag<Letter>) -> Result<(), Fail> {
-    let two = letters(alloc, 1, 2)?;
+fn refuses_two(rt: &impl Abort, alloc: Global, bag: &mut Bag<u64>) -> Result<(), Fail> {
+    let two = bag_of(alloc, 1, 2)?;
     let short = Short {
         position: 1,
         need: 2,
         has: 1,
     };
     assert!(rt; bag.less(&two) == Err(short));
-    assert!(rt; has_letters(bag, 2, 1));
+    assert!(rt; has_counts(bag, 2, 1));
     assert!(rt; bag.cardinality() == 3);
     Ok(())
 }
 
-fn is_copied(rt: &impl Abort, bag: &Bag<Letter>) -> Result<(), Fail> {
-    let twin = bag.try_clone(|letter| Ok(*letter))?;
-    assert!(rt; has_letters(&twin, 2, 1));
+fn is_copied(rt: &impl Abort, bag: &Bag<u64>) -> Result<(), Fail> {
+    let twin = bag.try_clone(|key| Ok(*key))?;
+    assert!(rt; has_counts(&twin, 2, 1));
     Ok(())
 }
 
-fn gives_two(rt: &impl Abort, alloc: Global, bag: &mut Bag<Letter>) -> Result<(), Fail> {
-    let two = letters(alloc, 2, 0)?;
-    assert_eq!(rt; bag.less(&two), Ok(()));
-    assert!(rt; has_letters(bag, 0, 1));
+fn gives_two(rt: &impl Abort, alloc: Global, bag: &mut Bag<u64>) -> Result<(), Fail> {
+    let two = bag_of(alloc, 2, 0)?;
+    assert!(rt; bag.less(&two) == Ok(()));
+    assert!(rt; has_counts(bag, 0, 1));
     Ok(())
 }
 
-fn takes_away(rt: &impl Abort, alloc: Global, bag: &mut Bag<Letter>) -> Result<(), Fail> {
+fn takes_away(rt: &impl Abort, alloc: Global, bag: &mut Bag<u64>) -> Result<(), Fail> {
     refuses_two(rt, alloc, bag)?;
     is_copied(rt, bag)?;
     gives_two(rt, alloc, bag)
 }
 
-#[test]
-fn less_and_cardinality(rt: HostRuntime) -> Result<(), Fail> {
-    let mut bag = letters(rt.alloc(), 2, 1)?;
-    takes_away(&rt, rt.alloc(), &mut bag)
-}
-
-fn adds_no_more(rt: &impl Abort, bag: &mut Bag<Letter>) -> Result<(), Fail> {
-    assert!(rt; matches!(bag.add(Letter::A, 1), Err(BagFault::TooLarge)));
-    assert!(rt; has_letters(bag, GREATEST, 0));
-    bag.add(Letter::B, 0)?;
-    assert!(rt; has_letters(bag, GREATEST, 0));
+fn adds_no_more(rt: &impl Abort, bag: &mut Bag<u64>) -> Result<(), Fail> {
+    assert!(rt; matches!(bag.add(A, 1), Err(BagFault::TooLarge)));
+    assert!(rt; has_counts(bag, GREATEST, 0));
+    bag.add(B, 0)?;
+    assert!(rt; has_counts(bag, GREATEST, 0));
     Ok(())
 }
 
-#[test]
-fn greatest_count_of_add(rt: HostRuntime) -> Result<(), Fail> {
-    let mut bag = letters(rt.alloc(), GREATEST, 0)?;
-    adds_no_more(&rt, &mut bag)
-}
-
-fn scales_no_more(rt: &impl Abort, bag: &mut Bag<Letter>) -> Result<(), Fail> {
+fn scales_no_more(rt: &impl Abort, bag: &mut Bag<u64>) -> Result<(), Fail> {
     assert!(rt; matches!(bag.scale(4611686018427387904), Err(BagFault::TooLarge)));
     bag.scale(0)?;
-    assert_eq!(rt; bag.cardinality(), 0);
+    assert!(rt; bag.cardinality() == 0);
     Ok(())
 }
 
-#[test]
-fn greatest_count_of_scale(rt: HostRuntime) -> Result<(), Fail> {
-    let mut bag = letters(rt.alloc(), 2, 0)?;
-    scales_no_more(&rt, &mut bag)
-}
-
-fn joins_no_more(rt: &impl Abort, alloc: Global, bag: &mut Bag<Letter>) -> Result<(), Fail> {
+fn joins_no_more(rt: &impl Abort, alloc: Global, bag: &mut Bag<u64>) -> Result<(), Fail> {
     bag.scale(GREATEST)?;
-    assert!(rt; has_letters(bag, GREATEST, 0));
-    let more = letters(alloc, 1, 0)?;
+    assert!(rt; has_counts(bag, GREATEST, 0));
+    let more = bag_of(alloc, 1, 0)?;
     assert!(rt; matches!(bag.join(more), Err(BagFault::TooLarge)));
     Ok(())
 }
 
-#[test]
-fn greatest_count_of_join(rt: HostRuntime) -> Result<(), Fail> {
-    let mut bag = letters(rt.alloc(), 1, 0)?;
-    joins_no_more(&rt, rt.alloc(), &mut bag)
-}
-
-fn joins(rt: &impl Abort, alloc: Global, bag: &mut Bag<Letter>) -> Result<(), Fail> {
-    let more = letters(alloc, 1, 1)?;
+fn joins(rt: &impl Abort, alloc: Global, bag: &mut Bag<u64>) -> Result<(), Fail> {
+    let more = bag_of(alloc, 1, 1)?;
     bag.join(more)?;
-    assert!(rt; has_letters(bag, 2, 1));
+    assert!(rt; has_counts(bag, 2, 1));
     Ok(())
 }
 
+/// What a test asks of a bag.
+#[derive(Clone, Copy)]
+enum Asked {
+    TakesAway,
+    AddsNoMore,
+    ScalesNoMore,
+    JoinsNoMore,
+    Joins,
+}
+
+fn holds(rt: &impl Abort, alloc: Global, bag: &mut Bag<u64>, asked: Asked) -> Result<(), Fail> {
+    match asked {
+        Asked::TakesAway => takes_away(rt, alloc, bag),
+        Asked::AddsNoMore => adds_no_more(rt, bag),
+        Asked::ScalesNoMore => scales_no_more(rt, bag),
+        Asked::JoinsNoMore => joins_no_more(rt, alloc, bag),
+        Asked::Joins => joins(rt, alloc, bag),
+    }
+}
+
+/// Asks this of a bag with these counts of A and B. No other function owns it.
+fn answer(rt: &impl Abort, alloc: Global, a: u64, b: u64, asked: Asked) -> Result<(), Fail> {
+    let mut bag = bag_of(alloc, a, b)?;
+    holds(rt, alloc, &mut bag, asked)
+}
+
 #[test]
-fn a_bag_joined_to_another(rt: HostRuntime) -> Result<(), Fail> {
-    let mut bag = letters(rt.alloc(), 1, 0)?;
-    joins(&rt, rt.alloc(), &mut bag)
+fn counts_and_the_greatest_of_them(rt: HostRuntime) -> Result<(), Fail> {
+    answer(&rt, rt.alloc(), 2, 1, Asked::TakesAway)?;
+    answer(&rt, rt.alloc(), GREATEST, 0, Asked::AddsNoMore)?;
+    answer(&rt, rt.alloc(), 2, 0, Asked::ScalesNoMore)?;
+    answer(&rt, rt.alloc(), 1, 0, Asked::JoinsNoMore)?;
+    answer(&rt, rt.alloc(), 1, 0, Asked::Joins)
 }
 
 /// A bag with these keys and counts, the second key first.
@@ -166,19 +170,19 @@ fn compares<K: Ord + Drop>(rt: &impl Abort, bag: &Bag<K>, more: &Bag<K>, low: &K
     assert!(rt; bag.first_short(more) == Some(short));
 }
 
-/// The bag has these entries, in this order.
-fn has_entries<K: Ord + Drop>(
-    rt: &impl Abort,
-    bag: &Bag<K>,
-    expected: &[(&K, u64)],
-) -> Result<(), Fail> {
-    let mut wanted = expected.iter();
-    for (key, count) in bag.iter() {
-        let (other, number) = wanted.next().ok_or("one too many")?;
-        assert!(rt; key == *other && count == *number);
+fn is_entry<K: Ord + Drop>(entry: Option<(&K, u64)>, key: &K, count: u64) -> bool {
+    match entry {
+        Some((found, number)) => found == key && number == count,
+        None => false,
     }
-    assert!(rt; wanted.next().is_none());
-    Ok(())
+}
+
+/// Whether a bag has three of the smaller key and twelve of the greater one, in this order.
+fn has_three_and_twelve<K: Ord + Drop>(bag: &Bag<K>, low: &K, high: &K) -> bool {
+    let mut entries = bag.iter();
+    is_entry(entries.next(), low, 3)
+        && is_entry(entries.next(), high, 12)
+        && entries.next().is_none()
 }
 
 /// Joins the other bag, takes away what the bag had before, and takes the rest three times.
@@ -206,7 +210,8 @@ fn calls<K: Ord + Drop>(
 ) -> Result<(), Fail> {
     compares(rt, bag, &more, low, high);
     grows(rt, bag, more, before)?;
-    has_entries(rt, bag, &[(low, 3), (high, 12)])
+    assert!(rt; has_three_and_twelve(bag, low, high));
+    Ok(())
 }
 
 fn copied_calls<K: Ord + Drop, F: Fn(&K) -> Result<K, AllocError>>(

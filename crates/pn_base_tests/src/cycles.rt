@@ -8,75 +8,75 @@ use std::process::Abort;
 use std::test::Fail;
 
 /// Begins a node that leads to these.
-fn add_row(graph: &mut Graph, row: &[usize]) -> Result<(), AllocError> {
+fn add_row(graph: &mut Graph, row: &str) -> Result<(), AllocError> {
     graph.node()?;
-    for end in row {
-        graph.edge(*end)?;
+    for end in row.split_whitespace() {
+        graph.edge(end.parse().unwrap_or(0))?;
     }
     Ok(())
 }
 
-/// Adds a node for each row, which leads to the nodes in it.
-fn add_rows(graph: &mut Graph, rows: &[&[usize]]) -> Result<(), AllocError> {
-    for row in rows {
+/// Adds a node for each line, which leads to the nodes in it.
+fn add_rows(graph: &mut Graph, rows: &str) -> Result<(), AllocError> {
+    for row in rows.lines() {
         add_row(graph, row)?;
     }
     Ok(())
 }
 
 /// The graph of the nodes that each node leads to.
-fn graph_of(alloc: Global, rows: &[&[usize]]) -> Result<Graph, AllocError> {
+fn graph_of(alloc: Global, rows: &str) -> Result<Graph, AllocError> {
     let mut graph = Graph::new(alloc);
     add_rows(&mut graph, rows)?;
     Ok(graph)
 }
 
-/// Whether the nodes that are told to be on a cycle are these.
-fn shows(rt: &impl Abort, order: &Order, on_cycle: &[bool])
-    requires { length order.now.on_cycle ≡ length on_cycle.now }
+/// Whether the nodes that are told to be on a cycle are those with an `o`.
+fn shows(order: &Order, marks: &[u8]) -> bool
+    requires { length order.now.on_cycle ≡ length marks.now }
 {
-    assert!(rt; order.nodes().len() == on_cycle.len());
-    for (node, expected) in on_cycle.iter().enumerate() {
-        assert!(rt; order.is_on_cycle(node) == *expected);
+    for node in 0..marks.len() {
+        if order.is_on_cycle(node) != (marks[node] == b'o') {
+            return false;
+        }
     }
+    order.nodes().len() == marks.len()
 }
 
-fn tells_of(rt: &impl Abort, alloc: Global, graph: &Graph, on_cycle: &[bool]) -> Result<(), Fail> {
+fn tells_of(rt: &impl Abort, alloc: Global, graph: &Graph, marks: &[u8]) -> Result<(), Fail> {
     assert!(rt; graph.is_whole());
-    assert!(rt; graph.len() == on_cycle.len());
+    assert!(rt; graph.len() == marks.len());
     let order = order_of(alloc, graph)?;
-    shows(rt, &order, on_cycle);
+    assert!(rt; shows(&order, marks));
     Ok(())
 }
 
-fn tells(rt: &impl Abort, alloc: Global, rows: &[&[usize]], on_cycle: &[bool]) -> Result<(), Fail> {
+/// Whether of these nodes, each with those that it leads to, the ones with an `o` are on a cycle.
+fn tells(rt: &impl Abort, alloc: Global, rows: &str, marks: &str) -> Result<(), Fail> {
     let graph = graph_of(alloc, rows)?;
-    tells_of(rt, alloc, &graph, on_cycle)
+    tells_of(rt, alloc, &graph, marks.as_bytes())
 }
 
 #[test]
 fn small_graphs(rt: HostRuntime) -> Result<(), Fail> {
     let alloc = rt.alloc();
-    tells(&rt, alloc, &[], &[])?;
-    tells(&rt, alloc, &[&[]], &[false])?;
-    tells(&rt, alloc, &[&[0]], &[true])?;
+    tells(&rt, alloc, "", "")?;
+    tells(&rt, alloc, "\n", ".")?;
+    tells(&rt, alloc, "0\n", "o")?;
     // a diamond, and one cycle through all nodes
-    tells(&rt, alloc, &[&[1, 2], &[3], &[3], &[]], &[false; 4])?;
-    tells(&rt, alloc, &[&[1], &[2], &[3], &[0]], &[true; 4])
+    tells(&rt, alloc, "1 2\n3\n3\n\n", "....")?;
+    tells(&rt, alloc, "1\n2\n3\n0\n", "oooo")
 }
 
 #[test]
 fn graphs_with_cycles(rt: HostRuntime) -> Result<(), Fail> {
     let alloc = rt.alloc();
     // two cycles, and a path from one to the other
-    let rows: [&[usize]; 6] = [&[1], &[0, 2], &[3], &[4], &[5], &[4]];
-    tells(&rt, alloc, &rows, &[true, true, false, false, true, true])?;
+    tells(&rt, alloc, "1\n0 2\n3\n4\n5\n4\n", "oo..oo")?;
     // two cycles through one node, with edges that come more than once
-    let rows: [&[usize]; 5] = [&[4], &[2, 2], &[1, 3, 3], &[2], &[1, 1]];
-    tells(&rt, alloc, &rows, &[false, true, true, true, false])?;
+    tells(&rt, alloc, "4\n2 2\n1 3 3\n2\n1 1\n", ".ooo.")?;
     // an edge back to the middle of a path, and one to what is done
-    let rows: [&[usize]; 5] = [&[1, 4], &[2], &[3, 1], &[4], &[]];
-    tells(&rt, alloc, &rows, &[false, true, true, false, false])
+    tells(&rt, alloc, "1 4\n2\n3 1\n4\n\n", ".oo..")
 }
 
 fn is_ordered(rt: &impl Abort, alloc: Global, graph: &Graph) -> Result<(), Fail> {
@@ -92,7 +92,7 @@ fn is_ordered(rt: &impl Abort, alloc: Global, graph: &Graph) -> Result<(), Fail>
 fn orders(rt: HostRuntime) -> Result<(), Fail> {
     laws::leads_on();
     laws::leads_within();
-    let graph = graph_of(rt.alloc(), &[&[2], &[0], &[3], &[]])?;
+    let graph = graph_of(rt.alloc(), "2\n0\n3\n\n")?;
     is_ordered(&rt, rt.alloc(), &graph)
 }
 
@@ -105,7 +105,7 @@ fn becomes_whole(rt: &impl Abort, graph: &mut Graph) -> Result<(), Fail> {
 
 #[test]
 fn ends_to_come(rt: HostRuntime) -> Result<(), Fail> {
-    let mut graph = graph_of(rt.alloc(), &[&[0, 1]])?;
+    let mut graph = graph_of(rt.alloc(), "0 1\n")?;
     becomes_whole(&rt, &mut graph)
 }
 
@@ -114,7 +114,8 @@ fn add_chain(graph: &mut Graph, count: usize) -> Result<(), AllocError>
     requires { count ≤ 20000 }
 {
     for node in 0..count {
-        add_row(graph, &[node + 1])?;
+        graph.node()?;
+        graph.edge(node + 1)?;
     }
     graph.node()
 }

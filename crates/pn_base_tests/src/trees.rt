@@ -49,7 +49,7 @@ fn has_text(rt: &impl Abort, alloc: Global, tree: &Tree, want: &str) -> Result<(
 
 /// The sink is put this text of a tree.
 fn puts(rt: &impl Abort, tree: &Tree, sink: &mut MemorySink, want: &str) {
-    assert!(rt; put_tree(tree, sink).is_ok(), "{want}");
+    assert!(rt; put_tree(tree, sink).is_ok());
     assert!(rt; sink.bytes() == want.as_bytes());
     assert!(rt; text_length(tree) == want.len() as u64);
 }
@@ -228,7 +228,7 @@ fn finds_attrs(rt: &impl Abort, root: View<'_>) {
 
 fn shows_text(rt: &impl Abort, kid: Kid<'_>) {
     match kid {
-        Kid::Text(text) => assert_eq!(rt; text, "tu"),
+        Kid::Text(text) => assert!(rt; text == "tu"),
         Kid::Element(_) => assert!(rt; false),
     }
 }
@@ -245,7 +245,7 @@ fn shows_element(rt: &impl Abort, alloc: Global, kid: Kid<'_>) -> Result<(), Fai
 fn shows_kids(rt: &impl Abort, alloc: Global, root: View<'_>) -> Result<(), Fail>
     requires { depth_of (element_of root) ≤ 256 }
 {
-    assert_eq!(rt; root.kid_count(), 3);
+    assert!(rt; root.kid_count() == 3);
     shows_text(rt, root.kid(0));
     shows_element(rt, alloc, root.kid(1))
 }

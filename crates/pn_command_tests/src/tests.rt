@@ -66,9 +66,9 @@ fn expect_ended(
     out: &MemorySink,
     err: &MemorySink,
 ) {
-    assert_eq!(rt; status, case.status);
-    assert_eq!(rt; out.bytes(), case.out.as_bytes());
-    assert_eq!(rt; err.bytes(), case.err.as_bytes());
+    assert!(rt; status == case.status);
+    assert!(rt; out.bytes() == case.out.as_bytes());
+    assert!(rt; err.bytes() == case.err.as_bytes());
 }
 
 fn expect_with_out(
@@ -214,63 +214,64 @@ fn check_sums_a_plain_net_up(rt: HostRuntime) -> Result<(), Fail> {
     Ok(())
 }
 
-/// That the plain net with one part replaced by another is not yet taken, for each row.
-fn expect_not_yet(rt: &impl Abort, alloc: Global, table: &[(&str, &str)]) -> Result<(), Fail> {
-    for (part, other) in table {
-        let document = with(alloc, part, other)?;
-        expect_refused(rt, alloc, document.as_str().as_bytes(), NOT_YET)?;
+/// The plain net with one part in the place of another, as a row tells.
+fn changed(alloc: Global, row: &str) -> Result<String, Fail> {
+    let (part, other) = row.split_once(" => ").ok_or("no such row")?;
+    with(alloc, part, other)
+}
+
+/// That the plain net, changed as the row tells, is not yet taken.
+fn is_not_yet(rt: &impl Abort, alloc: Global, row: &str) -> Result<(), Fail> {
+    let document = changed(alloc, row)?;
+    Ok(expect_refused(rt, alloc, document.as_str().as_bytes(), NOT_YET)?)
+}
+
+/// That the plain net is not yet taken where it is changed, for each row.
+fn expect_not_yet(rt: &impl Abort, alloc: Global, rows: &str) -> Result<(), Fail> {
+    for row in rows.lines() {
+        is_not_yet(rt, alloc, row)?;
     }
     Ok(())
 }
 
+/// Parts of the plain net, and other ids and ends in their place.
+const OTHER_IDS: &str = "\
+<place id=\"b\" => <place id=\"a\"
+<page id=\"g\" => <page id=\"n\"
+<arc id=\"v\" => <arc id=\"t\"
+source=\"a\" target=\"t\" => source=\"a\" target=\"b\"
+source=\"a\" target=\"t\" => source=\"c\" target=\"t\"
+source=\"a\" target=\"t\" => source=\"g\" target=\"t\"
+<transition id=\"t\" => <transition id=\"t.\"
+<net id=\"n\" => <net id=\"\"
+source=\"a\" target=\"t\" => target=\"t\" source=\"a\"
+grammar/pnml => grammar/pnml\u{20}";
+
 #[test]
 fn other_ids_and_ends_are_not_yet(rt: HostRuntime) -> Result<(), Fail> {
-    expect_not_yet(
-        &rt,
-        rt.alloc(),
-        &[
-            ("<place id=\"b\"", "<place id=\"a\""),
-            ("<page id=\"g\"", "<page id=\"n\""),
-            ("<arc id=\"v\"", "<arc id=\"t\""),
-            ("source=\"a\" target=\"t\"", "source=\"a\" target=\"b\""),
-            ("source=\"a\" target=\"t\"", "source=\"c\" target=\"t\""),
-            ("source=\"a\" target=\"t\"", "source=\"g\" target=\"t\""),
-            ("<transition id=\"t\"", "<transition id=\"t.\""),
-            ("<net id=\"n\"", "<net id=\"\""),
-            ("source=\"a\" target=\"t\"", "target=\"t\" source=\"a\""),
-            ("grammar/pnml", "grammar/pnml "),
-        ],
-    )
+    expect_not_yet(&rt, rt.alloc(), OTHER_IDS)
 }
+
+/// Parts of the plain net, and other labels and elements in their place.
+const OTHER_LABELS: &str = "\
+>3< => >03<
+>3< => ><
+>3< => > 3<
+>3< => > <
+<text>3 =>  3<text>3
+<text>3</text> => <text>3</text><text>3</text>
+<text>3 => <text x=\"y\">3
+/><transition => />.<transition
+<page => <!-- no text -->text<page
+<place id=\"b\"/> => <place id=\"b\"><name/></place>
+>3< => >9223372036854775808<
+<place id=\"b\"/><transition id=\"t\"/> => <transition id=\"t\"/><place id=\"b\"/>
+</page> => </page><page id=\"h\"></page>
+target=\"t\"/> => target=\"t\"><inscription><text>0</text></inscription></arc>";
 
 #[test]
 fn other_labels_and_elements_are_not_yet(rt: HostRuntime) -> Result<(), Fail> {
-    expect_not_yet(
-        &rt,
-        rt.alloc(),
-        &[
-            (">3<", ">03<"),
-            (">3<", "><"),
-            (">3<", "> 3<"),
-            (">3<", "> <"),
-            ("<text>3", " 3<text>3"),
-            ("<text>3</text>", "<text>3</text><text>3</text>"),
-            ("<text>3", "<text x=\"y\">3"),
-            ("/><transition", "/>.<transition"),
-            ("<page", "<!-- no text -->text<page"),
-            ("<place id=\"b\"/>", "<place id=\"b\"><name/></place>"),
-            (">3<", ">9223372036854775808<"),
-            (
-                "<place id=\"b\"/><transition id=\"t\"/>",
-                "<transition id=\"t\"/><place id=\"b\"/>",
-            ),
-            ("</page>", "</page><page id=\"h\"></page>"),
-            (
-                "target=\"t\"/>",
-                "target=\"t\"><inscription><text>0</text></inscription></arc>",
-            ),
-        ],
-    )
+    expect_not_yet(&rt, rt.alloc(), OTHER_LABELS)
 }
 
 /// What `flatten` writes for the plain net, in whatever layout it is.
@@ -291,7 +292,7 @@ fn expect_flattened(rt: &impl Abort, alloc: Global, document: &str) -> Result<()
 fn flatten_writes_the_canonical_text(rt: HostRuntime) -> Result<(), Fail> {
     let alloc = rt.alloc();
     let text = flattened(alloc)?;
-    assert_eq!(rt; text.len(), 373);
+    assert!(rt; text.len() == 373);
     expect_flattened(&rt, alloc, TRANSFER)?;
     expect_flattened(&rt, alloc, text.as_str())?;
     expect_checked(&rt, alloc, text.as_str(), SUMMARY)?;
@@ -364,9 +365,8 @@ fn run_on_longer(
 fn expect_longer(rt: &impl Abort, alloc: Global, words: &[String]) -> Result<(), AllocError> {
     let mut err = MemorySink::new(alloc, 100, Vec::new(alloc))?;
     let status = run_on_longer(alloc, words, &mut err)?;
-    assert_eq!(rt; status, Status::Limit);
     let line = b"pnml: limit: input longer than 67108864 bytes\n".as_slice();
-    assert_eq!(rt; err.bytes(), line);
+    assert!(rt; status == Status::Limit && err.bytes() == line);
     Ok(())
 }
 
@@ -382,45 +382,43 @@ fn a_longer_input_passes_the_limit(rt: HostRuntime) -> Result<(), Fail> {
 #[test]
 fn a_front_of_a_document_is_broken_at_its_end(rt: HostRuntime) -> Result<(), Fail> {
     let bytes = TRANSFER.as_bytes();
-    assert_eq!(rt; bytes.len(), 333);
+    assert!(rt; bytes.len() == 333);
     for end in 0..bytes.len() {
         expect_broken(&rt, rt.alloc(), &bytes[..end], end)?;
     }
     Ok(())
 }
 
-/// That each of these documents is broken at the byte beside it.
-fn expect_each_broken(
-    rt: &impl Abort,
-    alloc: Global,
-    table: &[(&[u8], usize)],
-) -> Result<(), AllocError> {
-    for (document, at) in table {
-        expect_broken(rt, alloc, document, *at)?;
-    }
-    Ok(())
+/// That the document of a row is broken at the byte before it.
+fn is_broken_there(rt: &impl Abort, alloc: Global, row: &str) -> Result<(), Fail> {
+    let (at, document) = row.split_once(' ').ok_or("no such row")?;
+    Ok(expect_broken(
+        rt,
+        alloc,
+        document.as_bytes(),
+        at.parse().unwrap_or(1000000),
+    )?)
 }
+
+const BROKEN: &str = "\
+16 <place id=\"a\" id=\"b\"/>
+11 <a>&#x110000;</a>
+6 <a>&#0;</a>
+5 <a>]]></a>
+2 <!DOCTYPE a><a/>
+10 <a><!-- -- --></a>
+5 <a></b>
+5 <a/><a/>
+4 <a/>x
+34 <?xml version=\"1.0\" encoding=\"UTF-16\"?><a/>
+6  <?xml version=\"1.0\"?><a/>";
 
 #[test]
 fn what_is_no_document_is_broken_at_its_break(rt: HostRuntime) -> Result<(), Fail> {
-    expect_each_broken(
-        &rt,
-        rt.alloc(),
-        &[
-            (b"<place id=\"a\" id=\"b\"/>".as_slice(), 16),
-            (b"<a>&#x110000;</a>", 11),
-            (b"<a>&#0;</a>", 6),
-            (b"<a>]]></a>", 5),
-            (b"<!DOCTYPE a><a/>", 2),
-            (b"<a><!-- -- --></a>", 10),
-            (b"<a></b>", 5),
-            (b"<a/><a/>", 5),
-            (b"<a/>x", 4),
-            (b"<a>\xEF\xBF\xBE", 5),
-            (b"<?xml version=\"1.0\" encoding=\"UTF-16\"?><a/>", 34),
-            (b" <?xml version=\"1.0\"?><a/>", 6),
-        ],
-    )?;
+    for row in BROKEN.lines() {
+        is_broken_there(&rt, rt.alloc(), row)?;
+    }
+    expect_broken(&rt, rt.alloc(), b"<a>\xEF\xBF\xBE", 5)?;
     Ok(())
 }
 
@@ -458,32 +456,32 @@ fn layout_is_left_out(rt: HostRuntime) -> Result<(), Fail> {
     Ok(())
 }
 
-/// That the plain net with one part replaced by another is the same net, for each row.
-fn expect_same_net(rt: &impl Abort, alloc: Global, table: &[(&str, &str)]) -> Result<(), Fail> {
-    for (part, other) in table {
-        let document = with(alloc, part, other)?;
-        expect_flattened(rt, alloc, document.as_str())?;
+/// That the plain net, changed as the row tells, is the same net.
+fn is_same_net(rt: &impl Abort, alloc: Global, row: &str) -> Result<(), Fail> {
+    let document = changed(alloc, row)?;
+    Ok(expect_flattened(rt, alloc, document.as_str())?)
+}
+
+/// That the plain net is the same net where it is changed, for each row.
+fn expect_same_net(rt: &impl Abort, alloc: Global, rows: &str) -> Result<(), Fail> {
+    for row in rows.split('|') {
+        is_same_net(rt, alloc, row)?;
     }
     Ok(())
 }
 
+/// Parts of the plain net, and other spellings of them.
+const OTHER_SPELLINGS: &str = "\
+<text>3< => <text>&#51;<|\
+<text>3< => <text><![CDATA[3]]><|\
+<text>3< => <text><!-- three -->3<|\
+id=\"b\"/> => id = 'b' ></place>|\
+<pnml  => <?xml version='1.1' standalone='yes'?><?a b?>\n<pnml\u{20}|\
+</pnml> => </pnml>\n<!-- the end -->";
+
 #[test]
 fn other_spellings_are_the_same_net(rt: HostRuntime) -> Result<(), Fail> {
-    expect_same_net(
-        &rt,
-        rt.alloc(),
-        &[
-            ("<text>3<", "<text>&#51;<"),
-            ("<text>3<", "<text><![CDATA[3]]><"),
-            ("<text>3<", "<text><!-- three -->3<"),
-            ("id=\"b\"/>", "id = 'b' ></place>"),
-            (
-                "<pnml ",
-                "<?xml version='1.1' standalone='yes'?><?a b?>\n<pnml ",
-            ),
-            ("</pnml>", "</pnml>\n<!-- the end -->"),
-        ],
-    )
+    expect_same_net(&rt, rt.alloc(), OTHER_SPELLINGS)
 }
 
 #[test]
@@ -545,38 +543,46 @@ fn other_words_are_misused(rt: HostRuntime) -> Result<(), Fail> {
     Ok(())
 }
 
+/// That the third read of the plain net, in pieces of this size, fails.
+fn expect_read_fault(rt: &impl Abort, alloc: Global, cut: usize) -> Result<(), AllocError> {
+    let case = Case {
+        words: &["check"],
+        document: TRANSFER.as_bytes(),
+        cut,
+        failing: 3,
+        room: 1000,
+        status: Status::ReadFault,
+        out: "",
+        err: "",
+    };
+    expect_case(rt, alloc, case)
+}
+
 #[test]
 fn a_read_fault_is_told(rt: HostRuntime) -> Result<(), Fail> {
-    for cut in [100, 1] {
-        let case = Case {
-            words: &["check"],
-            document: TRANSFER.as_bytes(),
-            cut,
-            failing: 3,
-            room: 1000,
-            status: Status::ReadFault,
-            out: "",
-            err: "",
-        };
-        expect_case(&rt, rt.alloc(), case)?;
-    }
+    expect_read_fault(&rt, rt.alloc(), 100)?;
+    expect_read_fault(&rt, rt.alloc(), 1)?;
     Ok(())
+}
+
+/// That there is room for ten bytes of what is written of the plain net, in pieces of this size.
+fn expect_write_fault(rt: &impl Abort, alloc: Global, cut: usize) -> Result<(), AllocError> {
+    let case = Case {
+        words: &["check"],
+        document: TRANSFER.as_bytes(),
+        cut,
+        failing: 0,
+        room: 10,
+        status: Status::WriteFault,
+        out: "ptnet plac",
+        err: "",
+    };
+    expect_case(rt, alloc, case)
 }
 
 #[test]
 fn a_write_fault_is_told(rt: HostRuntime) -> Result<(), Fail> {
-    for cut in [1000000, 1] {
-        let case = Case {
-            words: &["check"],
-            document: TRANSFER.as_bytes(),
-            cut,
-            failing: 0,
-            room: 10,
-            status: Status::WriteFault,
-            out: "ptnet plac",
-            err: "",
-        };
-        expect_case(&rt, rt.alloc(), case)?;
-    }
+    expect_write_fault(&rt, rt.alloc(), 1000000)?;
+    expect_write_fault(&rt, rt.alloc(), 1)?;
     Ok(())
 }

@@ -1,9 +1,12 @@
-//! Declarations for tests, entered into a list that the caller lends. No clause says what they are:
-//! a test looks at what comes of them.
+//! Declarations for tests, entered into a list that the caller lends, and sorts. No clause says what
+//! they are: a test looks at what comes of them.
 #![tactic(auto)]
+
+mod sorts;
 
 use pn_syntax::{ConstExpr, Constant, Declaration, PartElement, SortBody, SortExpr, SortNode};
 use pn_text::Text;
+pub use sorts::sort_of;
 use sqlite_items::Items;
 use std::alloc::{AllocError, Global};
 

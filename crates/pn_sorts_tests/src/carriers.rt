@@ -5,9 +5,10 @@ ghost use Rattle.pn_carriers.specs.Carriers.{is_finite, carrier};
 ghost use Rattle.pn_carriers.specs.Members.{IsMember};
 
 use pn_carriers::{has_value, nth, ordinal, size};
+use pn_samples::sort_of;
 use pn_text::Text;
 use pn_values::{Size, Sort, Value};
-use sqlite_items::{Boxed, Items};
+use sqlite_items::Items;
 use std::alloc::{AllocError, Global};
 use std::process::Abort;
 use std::test::Fail;
@@ -15,94 +16,43 @@ use std::test::Fail;
 /// The first declaration has three constants, the second none, the third two elements.
 const WIDTHS: [u32; 3] = [3, 0, 2];
 
-const CAP: u128 = 18446744073709551616;
-
-/// A node of a sort; `Product` and `List` take the sorts before them.
-#[derive(Clone, Copy)]
-enum Token {
-    Dot,
-    Truth,
-    Enumeration(u32),
-    Partition(u32),
-    Range(i64, i64),
-    Integer,
-    Text,
-    Product(usize),
-    List,
-}
-
-/// The last sorts of the stack, the last one first.
-fn popped(alloc: Global, stack: &mut Vec<Sort>, count: usize) -> Result<Items<Sort>, AllocError> {
-    let mut sorts = Items::new(alloc);
-    for _ in 0..count {
-        if let Some(sort) = stack.pop() {
-            sorts.push(sort)?;
-        }
-    }
-    Ok(sorts)
-}
-
-/// The last sort of the stack.
-fn top(stack: &mut Vec<Sort>) -> Sort {
-    match stack.pop() {
-        Some(sort) => sort,
-        None => Sort::Dot,
+/// What follows this number and a comma, where the text begins with them.
+fn behind_number<'a>(text: &'a str, number: i64) -> Option<&'a str> {
+    let (digits, rest) = text.split_once(',')?;
+    if digits.parse() == Ok(number) {
+        Some(rest)
+    } else {
+        None
     }
 }
 
-/// The sort of this node. Parts stand in the order from the last one of the stack on.
-fn node(alloc: Global, token: Token, stack: &mut Vec<Sort>) -> Result<Sort, AllocError> {
-    Ok(match token {
-        Token::Dot => Sort::Dot,
-        Token::Truth => Sort::Bool,
-        Token::Enumeration(place) => Sort::Enumeration(place),
-        Token::Partition(place) => Sort::Partition(place),
-        Token::Range(start, end) => Sort::Range { start, end },
-        Token::Integer => Sort::Integer,
-        Token::Text => Sort::Text,
-        Token::Product(count) => Sort::Product(popped(alloc, stack, count)?),
-        Token::List => Sort::List(Boxed::new(alloc, top(stack))?),
-    })
-}
-
-fn fill(alloc: Global, tokens: &[Token], stack: &mut Vec<Sort>) -> Result<(), AllocError> {
-    for behind in 0..tokens.len() {
-        let sort = node(alloc, tokens[tokens.len() - 1 - behind], stack)?;
-        stack.push(sort)?;
-    }
-    Ok(())
-}
-
-/// The sort of these nodes, each before its parts.
-fn sort_of(alloc: Global, tokens: &[Token]) -> Result<Sort, AllocError> {
-    let mut stack = Vec::new(alloc);
-    fill(alloc, tokens, &mut stack)?;
-    Ok(top(&mut stack))
-}
-
-/// A value as a text that is easy to compare.
-#[cycle(text)]
-fn text_of(alloc: Global, value: &Value) -> Result<String, AllocError> {
+/// What follows a value and a comma, where the text begins with them: `true,` and `4,`, `#0,` for a
+/// constant, `(true,4,),` for a tuple or a list.
+#[cycle(behind)]
+fn behind<'a>(value: &Value, text: &'a str) -> Option<&'a str> {
     match value {
-        Value::Dot => String::from_str(alloc, "dot"),
-        Value::Bool(truth) => format!(in alloc; "{truth}"),
-        Value::Const(constant) => format!(in alloc; "#{constant}"),
-        Value::Int(number) => format!(in alloc; "{number}"),
-        Value::Text(text) => String::from_str(alloc, text.as_str()),
-        Value::Tuple(values) => texts_of(alloc, values.as_slice()),
-        Value::List(values) => texts_of(alloc, values.as_slice()),
+        Value::Bool(truth) => text.strip_prefix(if *truth { "true," } else { "false," }),
+        Value::Const(constant) => behind_number(text.strip_prefix('#')?, i64::from(*constant)),
+        Value::Int(number) => behind_number(text, *number),
+        Value::Tuple(values) => behind_all(values.as_slice(), text),
+        Value::List(values) => behind_all(values.as_slice(), text),
+        Value::Dot => text.strip_prefix("dot,"),
+        Value::Text(_) => None,
     }
 }
 
-#[cycle(text)]
-fn texts_of(alloc: Global, values: &[Value]) -> Result<String, AllocError> {
-    let mut all = String::new(alloc);
+#[cycle(behind)]
+fn behind_all<'a>(values: &[Value], text: &'a str) -> Option<&'a str> {
+    let mut rest = text.strip_prefix('(')?;
     for value in values {
-        let text = text_of(alloc, value)?;
-        all.push_str(text.as_str())?;
-        all.push_str(",")?;
+        rest = behind(value, rest)?;
     }
-    Ok(all)
+    rest.strip_prefix("),")
+}
+
+/// Whether a value is written so.
+fn is_written(value: &Value, text: &str) -> bool {
+    behind(value, text) == Some("")
 }
 
 /// The place of the value at a place is that place.
@@ -131,11 +81,6 @@ fn nth_of_ordinal(
     nth(alloc, widths, sort, ordinal(widths, sort, value))
 }
 
-fn has_text(alloc: Global, value: &Value, want: &str) -> Result<bool, AllocError> {
-    let text = text_of(alloc, value)?;
-    Ok(text.as_str() == want)
-}
-
 /// The value that is found again at the place of this value has this text.
 fn is_found_again(
     alloc: Global,
@@ -149,241 +94,210 @@ fn is_found_again(
     requires member { IsMember widths.now value.now sort.now }
 {
     let again = nth_of_ordinal(alloc, widths, sort, value)?;
-    has_text(alloc, &again, want)
+    Ok(is_written(&again, want))
 }
 
-/// The value stands at the place `k`, and has this text.
+/// Whether the value has the place `k` and this text, and is found again there.
 fn stands_at(
-    rt: &impl Abort,
     alloc: Global,
     widths: &[u32],
     sort: &Sort,
     k: u64,
     value: &Value,
     want: &str,
-) -> Result<(), Fail>
+) -> Result<bool, AllocError>
     requires finite { is_finite sort.now ≡ true }
     requires few { length (carrier widths.now sort.now) < 2 ^ 64 }
     requires below { k < length (carrier widths.now sort.now) }
     requires member { IsMember widths.now value.now sort.now }
 {
-    assert!(rt; has_value(widths, sort, value));
-    assert!(rt; ordinal(widths, sort, value) == k);
-    assert!(rt; ordinal_of_nth(alloc, widths, sort, k)? == k);
-    assert!(rt; has_text(alloc, value, want)?);
-    assert!(rt; is_found_again(alloc, widths, sort, value, want)?);
-    Ok(())
+    let has_place = ordinal_of_nth(alloc, widths, sort, k)? == k;
+    let is_again = is_found_again(alloc, widths, sort, value, want)?;
+    let is_here = has_value(widths, sort, value) && ordinal(widths, sort, value) == k;
+    Ok(is_here && has_place && is_again && is_written(value, want))
 }
 
-/// At the place `k` of a small finite sort stands the value with this text.
-fn is_at(rt: &impl Abort, alloc: Global, sort: &Sort, k: u64, want: &str) -> Result<(), Fail> {
-    match size(&WIDTHS, sort) {
+/// Whether at the place `k` of a small finite sort stands the value with this text.
+fn is_at(
+    alloc: Global,
+    widths: &[u32],
+    sort: &Sort,
+    k: u64,
+    want: &str,
+) -> Result<bool, AllocError> {
+    match size(widths, sort) {
         Size::Finite(count) => {
-            assert!(rt; u128::from(k) < count && count < 1000);
-            let value = nth(alloc, &WIDTHS, sort, k)?;
-            stands_at(rt, alloc, &WIDTHS, sort, k, &value, want)
+            if u128::from(k) >= count || count >= 1000 {
+                return Ok(false);
+            }
+            let value = nth(alloc, widths, sort, k)?;
+            stands_at(alloc, widths, sort, k, &value, want)
         }
-        Size::Infinite => {
-            assert!(rt; false);
-            Ok(())
-        }
+        Size::Infinite => Ok(false),
     }
 }
 
 /// Each place of the sort has the value of the text that stands there, and gives it back.
-fn are_at(rt: &impl Abort, alloc: Global, sort: &Sort, want: &[&str]) -> Result<(), Fail> {
-    assert!(rt; size(&WIDTHS, sort) == Size::Finite(want.len() as u128));
-    for k in 0..want.len() {
-        is_at(rt, alloc, sort, k as u64, want[k])?;
+fn are_at(
+    rt: &impl Abort,
+    alloc: Global,
+    widths: &[u32],
+    sort: &Sort,
+    texts: &str,
+) -> Result<(), AllocError> {
+    let mut k = 0u64;
+    for want in texts.split_whitespace() {
+        assert!(rt; is_at(alloc, widths, sort, k, want)?);
+        k = k.saturating_add(1);
     }
+    assert!(rt; size(widths, sort) == Size::Finite(u128::from(k)));
     Ok(())
 }
-
-const PAIR: [Token; 3] = [Token::Product(2), Token::Truth, Token::Range(3, 5)];
 
 /// Sorts, with their values in lexicographic order.
-const FINITE: [(&[Token], &[&str]); 5] = [
-    (
-        &[Token::Product(2), Token::Truth, Token::Range(3, 5)],
-        &[
-            "false,3,", "false,4,", "false,5,", "true,3,", "true,4,", "true,5,",
-        ],
-    ),
-    (
-        &[
-            Token::Product(2),
-            Token::Product(2),
-            Token::Enumeration(0),
-            Token::Product(2),
-            Token::Range(-1, 1),
-            Token::Partition(2),
-            Token::Truth,
-        ],
-        &[
-            "#0,-1,#0,,,false,",
-            "#0,-1,#0,,,true,",
-            "#0,-1,#1,,,false,",
-            "#0,-1,#1,,,true,",
-            "#0,0,#0,,,false,",
-            "#0,0,#0,,,true,",
-            "#0,0,#1,,,false,",
-            "#0,0,#1,,,true,",
-            "#0,1,#0,,,false,",
-            "#0,1,#0,,,true,",
-            "#0,1,#1,,,false,",
-            "#0,1,#1,,,true,",
-            "#1,-1,#0,,,false,",
-            "#1,-1,#0,,,true,",
-            "#1,-1,#1,,,false,",
-            "#1,-1,#1,,,true,",
-            "#1,0,#0,,,false,",
-            "#1,0,#0,,,true,",
-            "#1,0,#1,,,false,",
-            "#1,0,#1,,,true,",
-            "#1,1,#0,,,false,",
-            "#1,1,#0,,,true,",
-            "#1,1,#1,,,false,",
-            "#1,1,#1,,,true,",
-            "#2,-1,#0,,,false,",
-            "#2,-1,#0,,,true,",
-            "#2,-1,#1,,,false,",
-            "#2,-1,#1,,,true,",
-            "#2,0,#0,,,false,",
-            "#2,0,#0,,,true,",
-            "#2,0,#1,,,false,",
-            "#2,0,#1,,,true,",
-            "#2,1,#0,,,false,",
-            "#2,1,#0,,,true,",
-            "#2,1,#1,,,false,",
-            "#2,1,#1,,,true,",
-        ],
-    ),
-    (&[Token::Product(0)], &[""]),
-    (&[Token::Product(2), Token::Dot, Token::Partition(1)], &[]),
-    (&[Token::Range(5, 3)], &[]),
-];
+const FINITE: &str = "\
+Product/2 Bool Range/3/5: (false,3,), (false,4,), (false,5,), (true,3,), (true,4,), (true,5,),
+Product/2 Product/2 Enumeration/0 Product/2 Range/-1/1 Partition/2 Bool: \
+((#0,(-1,#0,),),false,), ((#0,(-1,#0,),),true,), ((#0,(-1,#1,),),false,), ((#0,(-1,#1,),),true,), \
+((#0,(0,#0,),),false,), ((#0,(0,#0,),),true,), ((#0,(0,#1,),),false,), ((#0,(0,#1,),),true,), \
+((#0,(1,#0,),),false,), ((#0,(1,#0,),),true,), ((#0,(1,#1,),),false,), ((#0,(1,#1,),),true,), \
+((#1,(-1,#0,),),false,), ((#1,(-1,#0,),),true,), ((#1,(-1,#1,),),false,), ((#1,(-1,#1,),),true,), \
+((#1,(0,#0,),),false,), ((#1,(0,#0,),),true,), ((#1,(0,#1,),),false,), ((#1,(0,#1,),),true,), \
+((#1,(1,#0,),),false,), ((#1,(1,#0,),),true,), ((#1,(1,#1,),),false,), ((#1,(1,#1,),),true,), \
+((#2,(-1,#0,),),false,), ((#2,(-1,#0,),),true,), ((#2,(-1,#1,),),false,), ((#2,(-1,#1,),),true,), \
+((#2,(0,#0,),),false,), ((#2,(0,#0,),),true,), ((#2,(0,#1,),),false,), ((#2,(0,#1,),),true,), \
+((#2,(1,#0,),),false,), ((#2,(1,#0,),),true,), ((#2,(1,#1,),),false,), ((#2,(1,#1,),),true,),
+Product/0: (),
+Product/2 Dot Partition/1:
+Range/5/3:";
 
-fn agrees(rt: &impl Abort, alloc: Global, tokens: &[Token], want: &[&str]) -> Result<(), Fail> {
-    let sort = sort_of(alloc, tokens)?;
-    are_at(rt, alloc, &sort, want)
-}
-
-fn agree(rt: &impl Abort, alloc: Global, rows: &[(&[Token], &[&str])]) -> Result<(), Fail> {
-    for (tokens, want) in rows {
-        agrees(rt, alloc, tokens, want)?;
-    }
-    Ok(())
-}
-
-#[test]
-fn places_and_values(rt: HostRuntime) -> Result<(), Fail> {
-    let pair = sort_of(rt.alloc(), &PAIR)?;
-    is_at(&rt, rt.alloc(), &pair, 4, "true,4,")
+fn has_values(
+    rt: &impl Abort,
+    alloc: Global,
+    widths: &[u32],
+    words: &str,
+    texts: &str,
+) -> Result<(), AllocError> {
+    let sort = sort_of(alloc, words)?;
+    are_at(rt, alloc, widths, &sort, texts)
 }
 
 #[test]
 fn values_in_order(rt: HostRuntime) -> Result<(), Fail> {
-    agree(&rt, rt.alloc(), &FINITE)
-}
-
-const WHOLE: Token = Token::Range(i64::MIN, i64::MAX);
-
-const SIZES: [(&[Token], Size); 10] = [
-    (&[WHOLE], Size::Finite(CAP)),
-    (
-        &[Token::Range(i64::MIN, 9223372036854775806)],
-        Size::Finite(18446744073709551615),
-    ),
-    (&[Token::Enumeration(0)], Size::Finite(3)),
-    (&[Token::Enumeration(3)], Size::Finite(0)),
-    (&[Token::Text], Size::Infinite),
-    (&[Token::Product(2), WHOLE, Token::Truth], Size::Finite(CAP)),
-    (&[Token::Product(2), WHOLE, WHOLE], Size::Finite(CAP)),
-    (
-        &[Token::Product(2), WHOLE, Token::Range(5, 3)],
-        Size::Finite(0),
-    ),
-    (
-        &[Token::Product(2), Token::Integer, Token::Range(5, 3)],
-        Size::Infinite,
-    ),
-    (&[Token::List, Token::Dot], Size::Infinite),
-];
-
-fn have_sizes(rt: &impl Abort, alloc: Global, rows: &[(&[Token], Size)]) -> Result<(), Fail> {
-    for (tokens, want) in rows {
-        let sort = sort_of(alloc, tokens)?;
-        assert!(rt; size(&WIDTHS, &sort) == *want);
+    for row in FINITE.lines() {
+        let (words, texts) = row.split_once(':').ok_or("no sort")?;
+        has_values(&rt, rt.alloc(), &WIDTHS, words, texts)?;
     }
     Ok(())
+}
+
+/// Sorts, with their sizes: a number, or `no`.
+const SIZES: &str = "\
+Range/-9223372036854775808/9223372036854775807: 18446744073709551616
+Range/-9223372036854775808/9223372036854775806: 18446744073709551615
+Enumeration/0: 3
+Enumeration/3: 0
+Text: no
+Product/2 Range/-9223372036854775808/9223372036854775807 Bool: 18446744073709551616
+Product/2 Range/-9223372036854775808/9223372036854775807 Range/-9223372036854775808/9223372036854775807: 18446744073709551616
+Product/2 Range/-9223372036854775808/9223372036854775807 Range/5/3: 0
+Product/2 Integer Range/5/3: no
+List Dot: no";
+
+fn is_size(size: Size, want: &str) -> bool {
+    match size {
+        Size::Finite(count) => want.parse() == Ok(count),
+        Size::Infinite => want == "no",
+    }
+}
+
+fn has_size(alloc: Global, words: &str, want: &str) -> Result<bool, AllocError> {
+    let sort = sort_of(alloc, words)?;
+    Ok(is_size(size(&WIDTHS, &sort), want))
 }
 
 #[test]
 fn sizes_are_capped(rt: HostRuntime) -> Result<(), Fail> {
-    have_sizes(&rt, rt.alloc(), &SIZES)
+    for row in SIZES.lines() {
+        let (words, want) = row.split_once(": ").ok_or("no sort")?;
+        assert!(rt; has_size(rt.alloc(), words, want)?);
+    }
+    Ok(())
 }
 
-fn is_in(rt: &impl Abort, sort: &Sort, value: &Value, want: bool) {
-    assert!(rt; has_value(&WIDTHS, sort, value) == want);
+/// Numbers, with the sorts that have them.
+const NUMBERS: &str = "\
+-9223372036854775808 Integer
+-1 Integer
+0 Integer Natural
+1 Integer Natural Positive
+9223372036854775807 Integer Natural Positive";
+
+/// Whether a sort has the number where its name is one of these.
+fn is_as_told(sort: &Sort, number: i64, name: &str, names: &str) -> bool {
+    has_value(&WIDTHS, sort, &Value::Int(number)) == names.contains(name)
+}
+
+fn is_in_each(number: i64, names: &str) -> bool {
+    is_as_told(&Sort::Integer, number, "Integer", names)
+        && is_as_told(&Sort::Natural, number, "Natural", names)
+        && is_as_told(&Sort::Positive, number, "Positive", names)
 }
 
 #[test]
-fn numbers(rt: HostRuntime) {
-    let rows = [
-        (i64::MIN, true, false, false),
-        (-1, true, false, false),
-        (0, true, true, false),
-        (1, true, true, true),
-        (i64::MAX, true, true, true),
-    ];
-    for (number, integer, natural, positive) in rows {
-        let value = Value::Int(number);
-        is_in(&rt, &Sort::Integer, &value, integer);
-        is_in(&rt, &Sort::Natural, &value, natural);
-        is_in(&rt, &Sort::Positive, &value, positive);
+fn numbers(rt: HostRuntime) -> Result<(), Fail> {
+    for row in NUMBERS.lines() {
+        let (number, names) = row.split_once(' ').ok_or("no number")?;
+        assert!(rt; is_in_each(number.parse().unwrap_or(7), names));
     }
+    Ok(())
+}
+
+/// Texts that are values, and texts that are none.
+const TEXTS: &str = "|a\t\r\n\u{20}é\u{D7FF}\u{E000}\u{FFFD}\u{10000}\u{10FFFF}";
+
+const NO_TEXTS: &str = "\u{0}|a\u{1F}|\u{FFFE}b|\u{FFFF}";
+
+fn is_text(alloc: Global, text: &str) -> Result<bool, AllocError> {
+    let value = Value::Text(Text::from_str(alloc, text)?);
+    Ok(has_value(&WIDTHS, &Sort::Text, &value))
 }
 
 #[test]
 fn texts(rt: HostRuntime) -> Result<(), Fail> {
-    let rows = [
-        ("", true),
-        (
-            "a\t\r\n\u{20}é\u{D7FF}\u{E000}\u{FFFD}\u{10000}\u{10FFFF}",
-            true,
-        ),
-        ("\u{0}", false),
-        ("a\u{1F}", false),
-        ("\u{FFFE}b", false),
-        ("\u{FFFF}", false),
-    ];
-    for (text, want) in rows {
-        let value = Value::Text(Text::from_str(rt.alloc(), text)?);
-        is_in(&rt, &Sort::Text, &value, want);
+    for text in TEXTS.split('|') {
+        assert!(rt; is_text(rt.alloc(), text)?);
+    }
+    for text in NO_TEXTS.split('|') {
+        assert!(rt; !is_text(rt.alloc(), text)?);
     }
     Ok(())
 }
 
-fn list_of(alloc: Global, constants: &[u32]) -> Result<Value, AllocError> {
-    let mut values = Items::new(alloc);
+fn put_constants(values: &mut Items<Value>, constants: &[u32]) -> Result<(), AllocError> {
     for constant in constants {
         values.push(Value::Const(*constant))?;
     }
-    Ok(Value::List(values))
+    Ok(())
 }
 
-fn lists_are_in(rt: &impl Abort, alloc: Global, sort: &Sort) -> Result<(), Fail> {
-    let rows: [(&[u32], bool); 3] = [(&[], true), (&[2], true), (&[2, 3], false)];
-    for (constants, want) in rows {
-        let value = list_of(alloc, constants)?;
-        is_in(rt, sort, &value, want);
-    }
-    is_in(rt, sort, &Value::Const(2), false);
-    Ok(())
+/// Whether the sort has the list of these constants.
+fn has_list(alloc: Global, sort: &Sort, constants: &[u32]) -> Result<bool, AllocError> {
+    let mut values = Items::new(alloc);
+    put_constants(&mut values, constants)?;
+    Ok(has_value(&WIDTHS, sort, &Value::List(values)))
+}
+
+/// Whether the sort has the lists of none and of the third constant, and no list with a fourth.
+fn has_lists(alloc: Global, sort: &Sort) -> Result<bool, AllocError> {
+    let short = has_list(alloc, sort, &[])? && has_list(alloc, sort, &[2])?;
+    Ok(short && !has_list(alloc, sort, &[2, 3])?)
 }
 
 #[test]
 fn lists(rt: HostRuntime) -> Result<(), Fail> {
-    let sort = sort_of(rt.alloc(), &[Token::List, Token::Enumeration(0)])?;
-    lists_are_in(&rt, rt.alloc(), &sort)
+    let sort = sort_of(rt.alloc(), "List Enumeration/0")?;
+    assert!(rt; has_lists(rt.alloc(), &sort)?);
+    assert!(rt; !has_value(&WIDTHS, &sort, &Value::Const(2)));
+    Ok(())
 }

@@ -193,13 +193,15 @@ fn has_pair(alloc: Global, decls: &Decls, place: u32) -> bool {
     decls.fault().is_none() && is_pair_of(&sort, place)
 }
 
+fn means_a_pair(rt: &impl Abort, alloc: Global, first: bool, place: u32) -> Result<(), Fail> {
+    let items = pair(alloc, first)?;
+    answer(rt, alloc, &items, Asked::Pair(place))
+}
+
 #[test]
 fn declarations_in_either_order(rt: HostRuntime) -> Result<(), Fail> {
-    for (first, place) in [(true, 1), (false, 0)] {
-        let items = pair(rt.alloc(), first)?;
-        answer(&rt, rt.alloc(), &items, Asked::Pair(place))?;
-    }
-    Ok(())
+    means_a_pair(&rt, rt.alloc(), true, 1)?;
+    means_a_pair(&rt, rt.alloc(), false, 0)
 }
 
 fn push_both(sorts: &mut Items<Sort>) -> Result<(), AllocError> {

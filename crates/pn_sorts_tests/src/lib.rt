@@ -4,6 +4,8 @@
 #[cfg(test)]
 mod carriers;
 #[cfg(test)]
+mod copies;
+#[cfg(test)]
 mod declarations;
 #[cfg(test)]
 mod names;

@@ -20,12 +20,20 @@ fn add_halves(alloc: Global, items: &mut Vec<Declaration>) -> Result<(), AllocEr
     add_partition(alloc, items, "half", 0, range, elements)
 }
 
-fn add_all(alloc: Global, items: &mut Vec<Declaration>) -> Result<(), AllocError> {
+fn add_truth(alloc: Global, items: &mut Vec<Declaration>, id: &str) -> Result<(), AllocError> {
+    add_variable(alloc, items, id, 0, sort(0, SortNode::Bool))
+}
+
+fn add_first(alloc: Global, items: &mut Vec<Declaration>) -> Result<(), AllocError> {
     add_finite(alloc, items, "colour", 0, &["red", "green", "blue"])?;
-    add_variable(alloc, items, "x", 0, sort(0, SortNode::Bool))?;
-    add_cyclic(alloc, items, "day", 0, &["mon", "tue"])?;
+    add_truth(alloc, items, "x")?;
+    add_cyclic(alloc, items, "day", 0, &["mon", "tue"])
+}
+
+fn add_all(alloc: Global, items: &mut Vec<Declaration>) -> Result<(), AllocError> {
+    add_first(alloc, items)?;
     add_halves(alloc, items)?;
-    add_variable(alloc, items, "y", 0, sort(0, SortNode::Bool))?;
+    add_truth(alloc, items, "y")?;
     add_sort(alloc, items, "dots", 0, sort(0, SortNode::Dot))?;
     add_finite(alloc, items, "none", 0, &[])
 }
@@ -50,28 +58,61 @@ pub(crate) fn index_of(
     Index::of(alloc, items)
 }
 
-fn constant_at(declaration: u32, index: u32) -> Declared {
-    Declared::Constant(ConstantRef { declaration, index })
+/// Ids, with what each names and where.
+const NAMED: &str = "\
+colour named 0
+red constant 0/0
+blue constant 0/2
+x variable 0
+tue constant 2/1
+half partition 3
+high constant 3/1
+y variable 1
+none named 6
+pink nothing
+re nothing
+redd nothing
+ nothing";
+
+fn is_constant(constant: ConstantRef, place: &str) -> bool {
+    match place.split_once('/') {
+        Some((declaration, index)) => {
+            declaration.parse() == Ok(constant.declaration) && index.parse() == Ok(constant.index)
+        }
+        None => false,
+    }
 }
 
-fn find(rt: &impl Abort, index: &Index) {
-    let rows = [
-        ("colour", Some(Declared::Named(0))),
-        ("red", Some(constant_at(0, 0))),
-        ("blue", Some(constant_at(0, 2))),
-        ("x", Some(Declared::Variable(0))),
-        ("tue", Some(constant_at(2, 1))),
-        ("half", Some(Declared::Partition(3))),
-        ("high", Some(constant_at(3, 1))),
-        ("y", Some(Declared::Variable(1))),
-        ("none", Some(Declared::Named(6))),
-        ("re", None),
-        ("redd", None),
-        ("", None),
-    ];
-    for (id, want) in rows {
-        assert!(rt; index.find(id) == want);
+/// Whether this is a constant, a variable, .. at this place.
+fn is_named(found: Declared, kind: &str, place: &str) -> bool {
+    match found {
+        Declared::Named(at) => kind == "named" && place.parse() == Ok(at),
+        Declared::Variable(at) => kind == "variable" && place.parse() == Ok(at),
+        Declared::Partition(at) => kind == "partition" && place.parse() == Ok(at),
+        Declared::Constant(constant) => kind == "constant" && is_constant(constant, place),
     }
+}
+
+/// Whether an id names what the words tell.
+fn names(index: &Index, id: &str, words: &str) -> bool {
+    if index.constant(id).is_some() != words.starts_with("constant") {
+        return false;
+    }
+    match index.find(id) {
+        Some(found) => match words.split_once(' ') {
+            Some((kind, place)) => is_named(found, kind, place),
+            None => false,
+        },
+        None => words == "nothing",
+    }
+}
+
+fn find(rt: &impl Abort, index: &Index) -> Result<(), Fail> {
+    for row in NAMED.lines() {
+        let (id, words) = row.split_once(' ').ok_or("no words")?;
+        assert!(rt; names(index, id, words));
+    }
+    Ok(())
 }
 
 /// The id of the constant that this id names.
@@ -85,11 +126,8 @@ fn id_again<'a>(items: &'a [Declaration], index: &Index, id: &str) -> Option<&'a
 fn constants_tell_their_ids(rt: &impl Abort, items: &[Declaration], index: &Index)
     requires { index.now ≡ names_of items.now }
 {
-    for id in ["red", "green", "blue", "mon", "tue", "low", "high"] {
+    for id in "red green blue mon tue low high".split(' ') {
         assert!(rt; id_again(items, index, id) == Some(id));
-    }
-    for id in ["colour", "x", "half", "none", "pink"] {
-        assert!(rt; id_again(items, index, id).is_none());
     }
 }
 
@@ -106,7 +144,7 @@ fn finds_each_kind(index: &Index) -> bool {
 
 fn are_named(rt: &impl Abort, alloc: Global, items: &[Declaration]) -> Result<(), Fail> {
     let index = index_of(rt, alloc, items)?;
-    find(rt, &index);
+    find(rt, &index)?;
     assert!(rt; finds_each_kind(&index));
     constants_tell_their_ids(rt, items, &index);
     Ok(())
@@ -129,10 +167,14 @@ fn id_of_variable<'a>(items: &'a [Declaration], places: &[u32], v: u32) -> Optio
     }
 }
 
+fn are_widths(counts: &[u32]) -> bool {
+    counts == [3, 0, 2, 2, 0, 0, 0].as_slice()
+}
+
 fn have_widths(rt: &impl Abort, alloc: Global, items: &[Declaration]) -> Result<(), Fail> {
     assert!(rt; are_numbered(items));
     let counts = widths(alloc, items)?;
-    assert!(rt; counts.as_slice() == [3, 0, 2, 2, 0, 0, 0].as_slice());
+    assert!(rt; are_widths(counts.as_slice()));
     Ok(())
 }
 
@@ -169,7 +211,7 @@ fn declarations_tell_their_own(rt: HostRuntime) -> Result<(), Fail> {
 
 fn with_variable(alloc: Global, id: &str) -> Result<Vec<Declaration>, AllocError> {
     let mut items = declarations(alloc)?;
-    add_variable(alloc, &mut items, id, 0, sort(0, SortNode::Bool))?;
+    add_truth(alloc, &mut items, id)?;
     Ok(items)
 }
 
@@ -190,14 +232,9 @@ fn are_distinct_with(rt: &impl Abort, alloc: Global, id: &str) -> Result<bool, A
 
 #[test]
 fn an_id_given_twice(rt: HostRuntime) -> Result<(), Fail> {
-    for (id, distinct) in [
-        ("more", true),
-        ("colour", false),
-        ("red", false),
-        ("x", false),
-        ("low", false),
-    ] {
-        assert!(rt; are_distinct_with(&rt, rt.alloc(), id)? == distinct);
+    assert!(rt; are_distinct_with(&rt, rt.alloc(), "more")?);
+    for id in "colour red x low".split(' ') {
+        assert!(rt; !are_distinct_with(&rt, rt.alloc(), id)?);
     }
     Ok(())
 }

@@ -33,133 +33,155 @@ fn elements_of(alloc: Global, lists: &str) -> Result<Items<PartElement>, AllocEr
     Ok(elements)
 }
 
-fn digit(number: u32) -> char {
-    match number {
-        0 => '0',
-        1 => '1',
-        _ => '2',
+/// Whether a table has these numbers, each a digit.
+fn is_written(table: &[u32], digits: &[u8]) -> bool {
+    if table.len() != digits.len() {
+        return false;
+    }
+    for place in 0..table.len() {
+        if table[place].saturating_add(48) != u32::from(digits[place]) {
+            return false;
+        }
+    }
+    true
+}
+
+/// Whether these are the numbers of the elements that list each value, or `none` for no partition.
+fn is_table(table: &Option<Vec<u32>>, want: &str) -> bool {
+    match table {
+        Some(table) => is_written(table.as_slice(), want.as_bytes()),
+        None => want == "none",
     }
 }
 
-/// The numbers of the elements that list each value, or that these are no partition.
-fn table_text(alloc: Global, table: &Option<Vec<u32>>) -> Result<String, AllocError> {
-    let Some(table) = table else {
-        return String::from_str(alloc, "none");
-    };
-    let mut text = String::new(alloc);
-    for number in table {
-        text.push(digit(*number))?;
-    }
-    Ok(text)
-}
-
-fn has_table(
-    rt: &impl Abort,
-    alloc: Global,
-    table: &Option<Vec<u32>>,
-    want: &str,
-) -> Result<(), Fail> {
-    let text = table_text(alloc, table)?;
-    assert!(rt; text.as_str() == want);
-    Ok(())
-}
-
-/// These elements have this table of the base sort.
+/// Whether these elements have this table of the base sort.
 fn have_table(
-    rt: &impl Abort,
     alloc: Global,
     items: &[Declaration],
     index: &Index,
     base: &Sort,
     elements: &[PartElement],
     want: &str,
-) -> Result<(), Fail>
+) -> Result<bool, AllocError>
     requires { index.now ≡ names_of items.now }
 {
-    assert!(rt; elements.len() < 100);
+    if elements.len() >= 100 {
+        return Ok(false);
+    }
     let table = part_table(alloc, index, items, base, elements)?;
-    has_table(rt, alloc, &table, want)
+    Ok(is_table(&table, want))
 }
 
-/// The base sort split into elements that list these values has this table.
+/// Whether the base sort split into elements that list these values has this table.
 fn is_split(
+    alloc: Global,
+    items: &[Declaration],
+    index: &Index,
+    base: &Sort,
+    lists: &str,
+    want: &str,
+) -> Result<bool, AllocError>
+    requires { index.now ≡ names_of items.now }
+{
+    let elements = elements_of(alloc, lists)?;
+    have_table(alloc, items, index, base, elements.as_slice(), want)
+}
+
+/// Whether a row has lists of values and their table.
+fn is_row(
+    alloc: Global,
+    items: &[Declaration],
+    index: &Index,
+    base: &Sort,
+    row: &str,
+) -> Result<bool, AllocError>
+    requires { index.now ≡ names_of items.now }
+{
+    match row.split_once('=') {
+        Some((lists, want)) => is_split(alloc, items, index, base, lists, want),
+        None => Ok(false),
+    }
+}
+
+fn are_rows(
+    rt: &impl Abort,
+    alloc: Global,
+    items: &[Declaration],
+    index: &Index,
+    base: &Sort,
+    rows: &str,
+) -> Result<(), AllocError>
+    requires { index.now ≡ names_of items.now }
+{
+    for row in rows.lines() {
+        assert!(rt; is_row(alloc, items, index, base, row)?);
+    }
+    Ok(())
+}
+
+fn are_split_by(
     rt: &impl Abort,
     alloc: Global,
     items: &[Declaration],
     base: &Sort,
-    lists: &str,
-    want: &str,
+    rows: &str,
 ) -> Result<(), Fail> {
-    let elements = elements_of(alloc, lists)?;
     let index = index_of(rt, alloc, items)?;
-    have_table(rt, alloc, items, &index, base, elements.as_slice(), want)
+    Ok(are_rows(rt, alloc, items, &index, base, rows)?)
 }
 
-fn are_split(
-    rt: &impl Abort,
-    alloc: Global,
-    base: &Sort,
-    rows: &[(&str, &str)],
-) -> Result<(), Fail> {
+/// Each row has lists of values, split by semicolons, and their table.
+fn are_split(rt: &impl Abort, alloc: Global, base: &Sort, rows: &str) -> Result<(), Fail> {
     let items = declarations(alloc)?;
-    for (lists, want) in rows {
-        is_split(rt, alloc, &items, base, lists, want)?;
-    }
-    Ok(())
+    are_split_by(rt, alloc, &items, base, rows)
 }
 
-const COLOURS: [(&str, &str); 9] = [
-    ("red blue;green", "010"),
-    ("green;;blue red", "202"),
-    ("red blue", "none"),
-    ("red blue;green red", "none"),
-    ("red blue blue", "none"),
-    ("red blue;green mon", "none"),
-    ("red blue;low", "none"),
-    ("red blue;colour", "none"),
-    ("red blue;1/0/2", "none"),
-];
+const COLOURS: &str = "\
+red blue;green=010
+green;;blue red=202
+red blue=none
+red blue;green red=none
+red blue blue=none
+red blue;green mon=none
+red blue;low=none
+red blue;colour=none
+red blue;1/0/2=none";
 
 #[test]
 fn partitions_of_enumerations(rt: HostRuntime) -> Result<(), Fail> {
-    are_split(&rt, rt.alloc(), &Sort::Enumeration(0), &COLOURS)
+    are_split(&rt, rt.alloc(), &Sort::Enumeration(0), COLOURS)
 }
 
 #[test]
 fn partitions_of_no_values(rt: HostRuntime) -> Result<(), Fail> {
-    let rows = [("", ""), (";", ""), ("red", "none")];
-    are_split(&rt, rt.alloc(), &Sort::Enumeration(6), &rows)
+    are_split(&rt, rt.alloc(), &Sort::Enumeration(6), "=\n;=\nred=none")
 }
 
-const NUMBERS: [(&str, &str); 6] = [
-    ("1/-2/1 -2/-2/1;0/-2/1 -1/-2/1", "0110"),
-    ("1/-2/1 -2/-2/1;0/-2/1", "none"),
-    ("1/-2/1 -2/-2/1;0/-2/1 0/-2/1", "none"),
-    ("1/-2/1 -2/-2/1;0/-2/1 -1/-2/2", "none"),
-    ("1/-2/1 -2/-2/1;0/-2/1 2/-2/1", "none"),
-    ("1/-2/1 -2/-2/1;0/-2/1 red", "none"),
-];
+const NUMBERS: &str = "\
+1/-2/1 -2/-2/1;0/-2/1 -1/-2/1=0110
+1/-2/1 -2/-2/1;0/-2/1=none
+1/-2/1 -2/-2/1;0/-2/1 0/-2/1=none
+1/-2/1 -2/-2/1;0/-2/1 -1/-2/2=none
+1/-2/1 -2/-2/1;0/-2/1 2/-2/1=none
+1/-2/1 -2/-2/1;0/-2/1 red=none";
 
 #[test]
 fn partitions_of_ranges(rt: HostRuntime) -> Result<(), Fail> {
     let range = Sort::Range { start: -2, end: 1 };
-    are_split(&rt, rt.alloc(), &range, &NUMBERS)
+    are_split(&rt, rt.alloc(), &range, NUMBERS)
 }
 
-fn is_not_split(rt: &impl Abort, alloc: Global, base: &Sort) -> Result<(), Fail> {
-    are_split(rt, alloc, base, &[("", "none")])
+fn range_is_not_split(rt: &impl Abort, alloc: Global, start: i64, end: i64) -> Result<(), Fail> {
+    are_split(rt, alloc, &Sort::Range { start, end }, "=none")
 }
 
 #[test]
 fn sorts_that_are_not_split(rt: HostRuntime) -> Result<(), Fail> {
-    is_not_split(&rt, rt.alloc(), &Sort::Dot)?;
-    is_not_split(&rt, rt.alloc(), &Sort::Bool)?;
-    is_not_split(&rt, rt.alloc(), &Sort::Partition(3))?;
-    for (start, end) in [(0, 1048576), (i64::MIN, i64::MAX)] {
-        let range = Sort::Range { start, end };
-        is_not_split(&rt, rt.alloc(), &range)?;
-    }
-    Ok(())
+    are_split(&rt, rt.alloc(), &Sort::Dot, "=none")?;
+    are_split(&rt, rt.alloc(), &Sort::Bool, "=none")?;
+    are_split(&rt, rt.alloc(), &Sort::Partition(3), "=none")?;
+    range_is_not_split(&rt, rt.alloc(), 0, 1048576)?;
+    range_is_not_split(&rt, rt.alloc(), i64::MIN, i64::MAX)
 }
 
 /// Numbers from 0 on below a count, the last first.

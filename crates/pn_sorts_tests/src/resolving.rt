@@ -109,25 +109,114 @@ fn table_of(
     Table::of(alloc, items, index)
 }
 
-fn least_by(
+/// What a test asks of declarations; names stand at the offset 7.
+#[derive(Clone, Copy)]
+enum Asked<'a> {
+    NoFault,
+    Fault(Reason, u64, &'a str),
+    Extent(&'a SortExpr, Extent),
+    /// This name means the product of two enumerations, of the declaration at place 1.
+    Pair(&'a str),
+    /// This name is no sort.
+    Unknown(&'a str),
+    /// What this name means refers elsewhere.
+    Elsewhere(&'a str),
+}
+
+fn has_fault(
+    alloc: Global,
+    items: &[Declaration],
+    index: &Index,
+    table: &Table,
+    reason: Reason,
+    at: u64,
+    detail: &str,
+) -> Result<bool, AllocError>
+    requires { IsTable items.now index.now table.now }
+{
+    let least = least_fault_of(alloc, items, index, table)?;
+    Ok(is(&least, reason, at, detail))
+}
+
+fn has_no_fault(
+    alloc: Global,
+    items: &[Declaration],
+    index: &Index,
+    table: &Table,
+) -> Result<bool, AllocError>
+    requires { IsTable items.now index.now table.now }
+{
+    let least = least_fault_of(alloc, items, index, table)?;
+    Ok(least.is_none())
+}
+
+fn has_extent(
+    alloc: Global,
+    index: &Index,
+    table: &Table,
+    expr: &SortExpr,
+    extent: Extent,
+) -> Result<bool, AllocError> {
+    let mut least = None;
+    Ok(table.walk(alloc, index, expr, &mut least)? == extent)
+}
+
+/// What the expression that is this name stands for.
+fn meaning_of(
+    alloc: Global,
+    index: &Index,
+    table: &Table,
+    name: &str,
+) -> Result<Sort, ResolveFault> {
+    let expr = user(alloc, 7, name)?;
+    table.resolve(alloc, index, &expr)
+}
+
+fn holds(
+    alloc: Global,
+    items: &[Declaration],
+    index: &Index,
+    table: &Table,
+    asked: Asked<'_>,
+) -> Result<bool, AllocError>
+    requires { IsTable items.now index.now table.now }
+{
+    match asked {
+        Asked::NoFault => has_no_fault(alloc, items, index, table),
+        Asked::Fault(reason, at, detail) => {
+            has_fault(alloc, items, index, table, reason, at, detail)
+        }
+        Asked::Extent(expr, extent) => has_extent(alloc, index, table, expr, extent),
+        Asked::Pair(name) => Ok(is_pair(&meaning_of(alloc, index, table, name))),
+        Asked::Unknown(name) => Ok(is_unknown(&meaning_of(alloc, index, table, name), name)),
+        Asked::Elsewhere(name) => Ok(is_elsewhere(&meaning_of(alloc, index, table, name))),
+    }
+}
+
+/// Builds the table of the declarations and asks this of it.
+fn holds_by(
     rt: &impl Abort,
     alloc: Global,
     items: &[Declaration],
     index: &Index,
-) -> Result<Option<Fault>, AllocError>
+    asked: Asked<'_>,
+) -> Result<bool, AllocError>
     requires { index.now ≡ names_of items.now }
 {
     let table = table_of(rt, alloc, items, index)?;
-    least_fault_of(alloc, items, index, &table)
+    holds(alloc, items, index, &table, asked)
 }
 
-fn least(
+/// Asks this of the declarations.
+fn answer(
     rt: &impl Abort,
     alloc: Global,
     items: &[Declaration],
-) -> Result<Option<Fault>, AllocError> {
+    asked: Asked<'_>,
+) -> Result<(), Fail> {
     let index = index_of(rt, alloc, items)?;
-    least_by(rt, alloc, items, &index)
+    assert!(rt; holds_by(rt, alloc, items, &index, asked)?);
+    Ok(())
 }
 
 /// Whether a fault is this one, whole.
@@ -142,92 +231,16 @@ fn is(least: &Option<Fault>, reason: Reason, at: u64, detail: &str) -> bool {
     }
 }
 
-fn have_no_fault(rt: &impl Abort, alloc: Global, items: &[Declaration]) -> Result<(), Fail> {
-    let least = least(rt, alloc, items)?;
-    assert!(rt; least.is_none());
-    Ok(())
-}
-
-fn have_fault(
-    rt: &impl Abort,
-    alloc: Global,
-    items: &[Declaration],
-    reason: Reason,
-    at: u64,
-    detail: &str,
-) -> Result<(), Fail> {
-    let least = least(rt, alloc, items)?;
-    assert!(rt; is(&least, reason, at, detail));
-    Ok(())
-}
-
-fn extent_by(
-    rt: &impl Abort,
-    alloc: Global,
-    items: &[Declaration],
-    index: &Index,
-    expr: &SortExpr,
-) -> Result<Extent, AllocError>
-    requires { index.now ≡ names_of items.now }
-{
-    let table = table_of(rt, alloc, items, index)?;
-    let mut least = None;
-    table.walk(alloc, index, expr, &mut least)
-}
-
-fn extent_of(
-    rt: &impl Abort,
-    alloc: Global,
-    items: &[Declaration],
-    expr: &SortExpr,
-) -> Result<Extent, AllocError> {
-    let index = index_of(rt, alloc, items)?;
-    extent_by(rt, alloc, items, &index, expr)
-}
-
-fn resolved_by(
-    rt: &impl Abort,
-    alloc: Global,
-    items: &[Declaration],
-    index: &Index,
-    expr: &SortExpr,
-) -> Result<Sort, ResolveFault>
-    requires { index.now ≡ names_of items.now }
-{
-    let table = table_of(rt, alloc, items, index)?;
-    table.resolve(alloc, index, expr)
-}
-
-fn resolved(
-    rt: &impl Abort,
-    alloc: Global,
-    items: &[Declaration],
-    expr: &SortExpr,
-) -> Result<Sort, ResolveFault> {
-    let index = index_of(rt, alloc, items)?;
-    resolved_by(rt, alloc, items, &index, expr)
-}
-
 #[test]
 fn a_long_chain_has_no_fault(rt: HostRuntime) -> Result<(), Fail> {
     let items = chain(rt.alloc(), 20000, false)?;
-    have_no_fault(&rt, rt.alloc(), &items)
-}
-
-fn extent_of_name(
-    rt: &impl Abort,
-    alloc: Global,
-    items: &[Declaration],
-    name: &str,
-) -> Result<Extent, AllocError> {
-    let expr = user(alloc, 0, name)?;
-    extent_of(rt, alloc, items, &expr)
+    answer(&rt, rt.alloc(), &items, Asked::NoFault)
 }
 
 fn fit(rt: &impl Abort, alloc: Global, items: &[Declaration]) -> Result<(), Fail> {
-    have_no_fault(rt, alloc, items)?;
-    assert!(rt; extent_of_name(rt, alloc, items, "s11")? == fits(12, 4095));
-    Ok(())
+    answer(rt, alloc, items, Asked::NoFault)?;
+    let expr = user(alloc, 0, "s11")?;
+    answer(rt, alloc, items, Asked::Extent(&expr, fits(12, 4095)))
 }
 
 #[test]
@@ -239,23 +252,17 @@ fn doubles_fit_up_to_4095_nodes(rt: HostRuntime) -> Result<(), Fail> {
 #[test]
 fn doubles_past_that_are_too_big(rt: HostRuntime) -> Result<(), Fail> {
     let items = chain(rt.alloc(), 64, true)?;
-    have_fault(
-        &rt,
-        rt.alloc(),
-        &items,
-        Reason::SortTooBig,
-        12,
-        "productsort",
-    )
+    let asked = Asked::Fault(Reason::SortTooBig, 12, "productsort");
+    answer(&rt, rt.alloc(), &items, asked)
 }
 
 fn fits(depth: u32, nodes: u32) -> Extent {
     Extent::Fits { depth, nodes }
 }
 
-fn list_extent(rt: &impl Abort, alloc: Global, count: usize) -> Result<Extent, AllocError> {
+fn lists_have(rt: &impl Abort, alloc: Global, count: usize, extent: Extent) -> Result<(), Fail> {
     let lists = lists(alloc, 0, count)?;
-    extent_of(rt, alloc, &[], &lists)
+    answer(rt, alloc, &[], Asked::Extent(&lists, extent))
 }
 
 /// The product of so many dots.
@@ -267,18 +274,17 @@ fn dots(alloc: Global, count: usize) -> Result<SortExpr, AllocError> {
     Ok(sort(0, SortNode::Product(parts)))
 }
 
-fn dots_extent(rt: &impl Abort, alloc: Global, count: usize) -> Result<Extent, AllocError> {
+fn dots_have(rt: &impl Abort, alloc: Global, count: usize, extent: Extent) -> Result<(), Fail> {
     let dots = dots(alloc, count)?;
-    extent_of(rt, alloc, &[], &dots)
+    answer(rt, alloc, &[], Asked::Extent(&dots, extent))
 }
 
 #[test]
 fn sorts_fit_up_to_the_limits(rt: HostRuntime) -> Result<(), Fail> {
-    assert!(rt; list_extent(&rt, rt.alloc(), 31)? == fits(32, 32));
-    assert!(rt; list_extent(&rt, rt.alloc(), 32)? == Extent::TooBig);
-    assert!(rt; dots_extent(&rt, rt.alloc(), 4095)? == fits(2, 4096));
-    assert!(rt; dots_extent(&rt, rt.alloc(), 4096)? == Extent::TooBig);
-    Ok(())
+    lists_have(&rt, rt.alloc(), 31, fits(32, 32))?;
+    lists_have(&rt, rt.alloc(), 32, Extent::TooBig)?;
+    dots_have(&rt, rt.alloc(), 4095, fits(2, 4096))?;
+    dots_have(&rt, rt.alloc(), 4096, Extent::TooBig)
 }
 
 fn add_user(
@@ -302,63 +308,66 @@ fn add_split(alloc: Global, items: &mut Vec<Declaration>, at: u64) -> Result<(),
     add_empty_range(alloc, items, at, base)
 }
 
-/// One declaration with each fault, each at its own offset.
+/// The number at this place of the words.
+fn number(words: &str, place: usize) -> u64 {
+    match words.split(' ').nth(place) {
+        Some(word) => word.parse().unwrap_or(0),
+        None => 0,
+    }
+}
+
+/// One declaration with each fault, each at its own offset of these.
 fn add_faults(
     alloc: Global,
     items: &mut Vec<Declaration>,
-    offsets: [u64; 5],
+    offsets: &str,
 ) -> Result<(), AllocError> {
-    let [unknown, cycle, big, empty, split] = offsets;
-    add_user(alloc, items, "unknown", unknown, "nowhere")?;
-    add_user(alloc, items, "cycle", cycle, "cycle")?;
-    add_big(alloc, items, big)?;
+    add_user(alloc, items, "unknown", number(offsets, 0), "nowhere")?;
+    add_user(alloc, items, "cycle", number(offsets, 1), "cycle")?;
+    add_big(alloc, items, number(offsets, 2))?;
+    let empty = number(offsets, 3);
     let range = sort(empty, SortNode::Range { start: 2, end: 1 });
     add_sort(alloc, items, "empty", empty, range)?;
     // the `namedsort` on the way back to the partition is on no cycle
-    add_split(alloc, items, split)?;
+    add_split(alloc, items, number(offsets, 4))?;
     add_user(alloc, items, "way", 0, "split")
 }
 
 fn least_at_1(
     rt: &impl Abort,
     alloc: Global,
-    offsets: [u64; 5],
+    offsets: &str,
     reason: Reason,
     detail: &str,
 ) -> Result<(), Fail> {
     let mut items = Vec::new(alloc);
     add_faults(alloc, &mut items, offsets)?;
-    have_fault(rt, alloc, &items, reason, 1, detail)
+    answer(rt, alloc, &items, Asked::Fault(reason, 1, detail))
 }
 
 #[test]
 fn the_fault_at_the_least_offset_is_told(rt: HostRuntime) -> Result<(), Fail> {
-    let table = [
-        ([1, 2, 3, 4, 5], Reason::UnknownSort, "nowhere"),
-        ([2, 1, 3, 4, 5], Reason::SortCycle, "cycle"),
-        ([2, 3, 1, 4, 5], Reason::SortTooBig, "list"),
-        ([2, 3, 4, 1, 5], Reason::EmptyRange, "finiteintrange"),
-        ([2, 3, 4, 5, 1], Reason::SortCycle, "split"),
-        ([1, 1, 1, 1, 1], Reason::UnknownSort, "nowhere"),
-    ];
-    for (offsets, reason, detail) in table {
-        least_at_1(&rt, rt.alloc(), offsets, reason, detail)?;
-    }
-    Ok(())
+    let alloc = rt.alloc();
+    least_at_1(&rt, alloc, "1 2 3 4 5", Reason::UnknownSort, "nowhere")?;
+    least_at_1(&rt, alloc, "2 1 3 4 5", Reason::SortCycle, "cycle")?;
+    least_at_1(&rt, alloc, "2 3 1 4 5", Reason::SortTooBig, "list")?;
+    least_at_1(
+        &rt,
+        alloc,
+        "2 3 4 1 5",
+        Reason::EmptyRange,
+        "finiteintrange",
+    )?;
+    least_at_1(&rt, alloc, "2 3 4 5 1", Reason::SortCycle, "split")?;
+    least_at_1(&rt, alloc, "1 1 1 1 1", Reason::UnknownSort, "nowhere")
 }
 
 #[test]
 fn a_range_of_a_constant_is_empty(rt: HostRuntime) -> Result<(), Fail> {
     let mut items = Vec::new(rt.alloc());
     add_empty_range(rt.alloc(), &mut items, 1, sort(2, SortNode::Dot))?;
-    have_fault(
-        &rt,
-        rt.alloc(),
-        &items,
-        Reason::EmptyRange,
-        900,
-        "finiteintrange",
-    )
+    let asked = Asked::Fault(Reason::EmptyRange, 900, "finiteintrange");
+    answer(&rt, rt.alloc(), &items, asked)
 }
 
 fn add_pair(alloc: Global, items: &mut Vec<Declaration>) -> Result<(), AllocError> {
@@ -379,9 +388,9 @@ fn is_pair(sort: &Result<Sort, ResolveFault>) -> bool {
     }
 }
 
-fn is_unknown_sort(sort: &Result<Sort, ResolveFault>, at: u64, name: &str) -> bool {
+fn is_unknown(sort: &Result<Sort, ResolveFault>, name: &str) -> bool {
     match sort {
-        Err(ResolveFault::Fault(fault)) => is_fault(fault, Reason::UnknownSort, at, name),
+        Err(ResolveFault::Fault(fault)) => is_fault(fault, Reason::UnknownSort, 7, name),
         _ => false,
     }
 }
@@ -390,42 +399,15 @@ fn is_elsewhere(sort: &Result<Sort, ResolveFault>) -> bool {
     matches!(sort, Err(ResolveFault::Elsewhere))
 }
 
-/// What the expression that is this name, at the offset 7, stands for.
-fn meaning_of(
-    rt: &impl Abort,
-    alloc: Global,
-    items: &[Declaration],
-    name: &str,
-) -> Result<Sort, ResolveFault> {
-    let expr = user(alloc, 7, name)?;
-    resolved(rt, alloc, items, &expr)
-}
-
-fn means_a_pair(rt: &impl Abort, alloc: Global, items: &[Declaration]) -> bool {
-    let sort = meaning_of(rt, alloc, items, "p");
-    is_pair(&sort)
-}
-
-fn is_unknown(rt: &impl Abort, alloc: Global, items: &[Declaration]) -> bool {
-    let sort = meaning_of(rt, alloc, items, "c1");
-    is_unknown_sort(&sort, 7, "c1")
-}
-
-fn leads_elsewhere(rt: &impl Abort, alloc: Global, items: &[Declaration]) -> bool {
-    let sort = meaning_of(rt, alloc, items, "q");
-    is_elsewhere(&sort)
-}
-
-fn resolve_each(rt: &impl Abort, alloc: Global, items: &[Declaration]) {
-    assert!(rt; means_a_pair(rt, alloc, items));
-    assert!(rt; is_unknown(rt, alloc, items));
-    assert!(rt; leads_elsewhere(rt, alloc, items));
+fn resolve_each(rt: &impl Abort, alloc: Global, items: &[Declaration]) -> Result<(), Fail> {
+    answer(rt, alloc, items, Asked::Pair("p"))?;
+    answer(rt, alloc, items, Asked::Unknown("c1"))?;
+    answer(rt, alloc, items, Asked::Elsewhere("q"))
 }
 
 #[test]
 fn resolves(rt: HostRuntime) -> Result<(), Fail> {
     let mut items = Vec::new(rt.alloc());
     add_pair(rt.alloc(), &mut items)?;
-    resolve_each(&rt, rt.alloc(), &items);
-    Ok(())
+    resolve_each(&rt, rt.alloc(), &items)
 }

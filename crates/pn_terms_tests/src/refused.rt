@@ -2,9 +2,9 @@
 
 ghost use Rattle.pn_sorts.specs.Standing.{IsFaultless};
 
-use crate::sorted::typed;
-use pn_sorts::{Decls, Fault, Refusal};
-use std::alloc::Global;
+use crate::rows::are_right;
+use pn_sorts::Decls;
+use std::alloc::{AllocError, Global};
 use std::process::Abort;
 
 /// Each row that asks for an argument, with one argument too few.
@@ -201,82 +201,14 @@ listlength/1 memberatindex/2 emptylist:c true has wrong sort at 1 of memberatind
 equality/2 variable:z emptylist:nope has unknown sort at 7 of nope
 contains/2 all:nope empty:none has unknown sort at 7 of nope";
 
-/// Whether the fault has these words, this offset and this detail.
-fn is(fault: &Fault, reason: &str, at: u64, detail: &str) -> bool {
-    fault.reason.words() == reason && fault.at == at && fault.detail.as_str() == detail
-}
-
-/// Whether the term is refused for this fault.
-fn is_refused(
-    alloc: Global,
-    decls: &Decls,
-    words: &str,
-    reason: &str,
-    at: u64,
-    detail: &str,
-) -> bool
-    requires { IsFaultless decls.now }
-{
-    match typed(alloc, decls, words) {
-        Err(Refusal::Fault(fault)) => is(&fault, reason, at, detail),
-        _ => false,
-    }
-}
-
-/// The term of a row, and the words, the offset and the detail of its fault.
-fn parts(row: &str) -> Option<(&str, &str, u64, &str)> {
-    let (words, fault) = row.split_once(" has ")?;
-    let (reason, place) = fault.split_once(" at ")?;
-    let (at, detail) = place.split_once(" of ")?;
-    Some((words, reason, at.parse().ok()?, detail))
-}
-
-/// Whether a row tells the fault of its term.
-fn is_told(alloc: Global, decls: &Decls, row: &str) -> bool
-    requires { IsFaultless decls.now }
-{
-    match parts(row) {
-        Some((words, reason, at, detail)) => is_refused(alloc, decls, words, reason, at, detail),
-        None => false,
-    }
-}
-
-/// Each of the rows tells the fault of its term.
-fn are_told(rt: &impl Abort, alloc: Global, decls: &Decls, rows: &str)
-    requires { IsFaultless decls.now }
-{
-    for row in rows.lines() {
-        assert!(rt; is_told(alloc, decls, row));
-    }
-}
-
-/// Whether the term has a wrong sort at its operator.
-fn is_wrong(alloc: Global, decls: &Decls, words: &str) -> bool
-    requires { IsFaultless decls.now }
-{
-    match words.split_once('/') {
-        Some((name, _)) => is_refused(alloc, decls, words, "wrong sort", 0, name),
-        None => false,
-    }
-}
-
-/// Each of the terms has a wrong sort at its operator.
-fn are_wrong(rt: &impl Abort, alloc: Global, decls: &Decls, rows: &str)
-    requires { IsFaultless decls.now }
-{
-    for words in rows.lines() {
-        assert!(rt; is_wrong(alloc, decls, words));
-    }
-}
-
 /// Each row of each table.
-pub(crate) fn each_fault(rt: &impl Abort, alloc: Global, decls: &Decls)
+pub(crate) fn each_fault(rt: &impl Abort, alloc: Global, decls: &Decls) -> Result<(), AllocError>
     requires { IsFaultless decls.now }
 {
-    are_wrong(rt, alloc, decls, TOO_FEW);
-    are_wrong(rt, alloc, decls, TOO_MANY);
-    are_wrong(rt, alloc, decls, WRONG_SYMMETRIC);
-    are_wrong(rt, alloc, decls, WRONG_HIGH_LEVEL);
-    are_told(rt, alloc, decls, REASONS);
-    are_told(rt, alloc, decls, SEVERAL);
+    are_right(rt, alloc, decls, TOO_FEW)?;
+    are_right(rt, alloc, decls, TOO_MANY)?;
+    are_right(rt, alloc, decls, WRONG_SYMMETRIC)?;
+    are_right(rt, alloc, decls, WRONG_HIGH_LEVEL)?;
+    are_right(rt, alloc, decls, REASONS)?;
+    are_right(rt, alloc, decls, SEVERAL)
 }

@@ -1,12 +1,11 @@
-//! Terms and sorts in words.
+//! Terms in words.
 //!
 //! A term is the words of its nodes, each before its arguments: `and/2` is an operator and the number
 //! of its arguments, `of:q` an element of a partition, `variable:x`, `constant:c1`, `positive:2`,
 //! `range:3,1,5`, `text:ab`, `all:c`, `empty:c` and `emptylist:c` are leaves, and `true` is a truth
 //! value. The offset of a node is its place among them.
 
-use pn_samples::user;
-use pn_sorts::Sort;
+use pn_samples::{sort_of, user};
 use pn_terms::{Kind, NumberSort, Term, TermNode, TermSort, find_op};
 use pn_text::Text;
 use sqlite_items::{Boxed, Items};
@@ -126,64 +125,10 @@ pub(crate) fn term(alloc: Global, words: &str) -> Result<Term, AllocError> {
     Ok(top(&mut stack))
 }
 
-/// The last sort of the stack.
-fn last(stack: &mut Vec<Sort>) -> Sort {
-    match stack.pop() {
-        Some(sort) => sort,
-        None => Sort::Dot,
-    }
-}
-
-fn pair(alloc: Global, stack: &mut Vec<Sort>) -> Result<Sort, AllocError> {
-    let mut parts = Items::new(alloc);
-    put_pair(stack, &mut parts)?;
-    Ok(Sort::Product(parts))
-}
-
-fn put_pair(stack: &mut Vec<Sort>, parts: &mut Items<Sort>) -> Result<(), AllocError> {
-    parts.push(last(stack))?;
-    parts.push(last(stack))
-}
-
-fn range_sort(text: &str) -> Sort {
-    let (start, end, _) = range(text);
-    Sort::Range { start, end }
-}
-
-fn sort_node(alloc: Global, word: &str, stack: &mut Vec<Sort>) -> Result<Sort, AllocError> {
-    match word {
-        "Dot" => Ok(Sort::Dot),
-        "Bool" => Ok(Sort::Bool),
-        "Integer" => Ok(Sort::Integer),
-        "Text" => Ok(Sort::Text),
-        "c" => Ok(Sort::Enumeration(0)),
-        "q" => Ok(Sort::Partition(2)),
-        "List" => Ok(Sort::List(Boxed::new(alloc, last(stack))?)),
-        "Pair" => pair(alloc, stack),
-        _ => Ok(range_sort(word)),
-    }
-}
-
-fn put_sorts(alloc: Global, words: &str, stack: &mut Vec<Sort>) -> Result<(), AllocError> {
-    for word in words.rsplit(' ') {
-        let sort = sort_node(alloc, word, stack)?;
-        stack.push(sort)?;
-    }
-    Ok(())
-}
-
-/// The sort of these words, each before its parts: the enumeration `c` and the partition `q` of the
-/// declarations, a range as `1,5`, a `List` of one and a `Pair` of two.
-fn sort(alloc: Global, words: &str) -> Result<Sort, AllocError> {
-    let mut stack = Vec::new(alloc);
-    put_sorts(alloc, words, &mut stack)?;
-    Ok(last(&mut stack))
-}
-
 /// The sort of terms of these words: a sort, or a `Bag` over one.
 pub(crate) fn term_sort(alloc: Global, words: &str) -> Result<TermSort, AllocError> {
     match words.strip_prefix("Bag ") {
-        Some(of) => Ok(TermSort::Bag(sort(alloc, of)?)),
-        None => Ok(TermSort::Basis(sort(alloc, words)?)),
+        Some(of) => Ok(TermSort::Bag(sort_of(alloc, of)?)),
+        None => Ok(TermSort::Basis(sort_of(alloc, words)?)),
     }
 }

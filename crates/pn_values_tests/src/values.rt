@@ -1,11 +1,11 @@
 //! What no clause says of sorts and values: that calls succeed while there is memory, and the order
 //! by its bound.
 
+use pn_samples::sort_of;
 use pn_text::Text;
 use pn_values::{Sort, Value, laws};
-use sqlite_items::{Boxed, Items};
+use sqlite_items::Items;
 use std::alloc::{AllocError, Global};
-use std::process::Abort;
 use std::test::Fail;
 
 fn text(alloc: Global, bytes: &str) -> Result<Value, AllocError> {
@@ -47,6 +47,7 @@ fn put_parted(alloc: Global, values: &mut Vec<Value>) -> Result<(), AllocError> 
     values.push(Value::Tuple(single(alloc, Value::Int(1))?))?;
     values.push(Value::Tuple(pair(alloc, Value::Int(1), Value::Dot)?))?;
     values.push(Value::Tuple(single(alloc, Value::Int(2))?))?;
+    values.push(nested(alloc)?)?;
     values.push(Value::List(Items::new(alloc)))?;
     values.push(Value::List(single(alloc, Value::List(Items::new(alloc)))?))?;
     Ok(())
@@ -69,15 +70,6 @@ fn is_rising<T: Ord>(items: &[T]) -> bool {
     true
 }
 
-#[test]
-fn order_of_values(rt: HostRuntime) -> Result<(), Fail> {
-    let mut values = Vec::new(rt.alloc());
-    put_all(rt.alloc(), &mut values)?;
-    assert!(rt; is_rising(values.as_slice()));
-    laws::order_by_levels();
-    Ok(())
-}
-
 /// A tuple of a text and an empty list.
 fn nested(alloc: Global) -> Result<Value, AllocError> {
     let last = Value::List(Items::new(alloc));
@@ -89,23 +81,22 @@ fn is_copied(alloc: Global, value: &Value) -> Result<bool, AllocError> {
     Ok(twin == *value)
 }
 
+fn are_copied(alloc: Global, values: &[Value]) -> Result<bool, AllocError> {
+    for value in values {
+        if !is_copied(alloc, value)? {
+            return Ok(false);
+        }
+    }
+    Ok(true)
+}
+
 #[test]
-fn copies_of_values(rt: HostRuntime) -> Result<(), Fail> {
-    let value = nested(rt.alloc())?;
-    assert!(rt; is_copied(rt.alloc(), &value)?);
+fn order_and_copies_of_values(rt: HostRuntime) -> Result<(), Fail> {
+    let mut values = Vec::new(rt.alloc());
+    put_all(rt.alloc(), &mut values)?;
+    assert!(rt; is_rising(values.as_slice()) && are_copied(rt.alloc(), values.as_slice())?);
+    laws::order_by_levels();
     Ok(())
-}
-
-fn put_parts(parts: &mut Items<Sort>, first: Sort) -> Result<(), AllocError> {
-    parts.push(first)?;
-    parts.push(Sort::Range { start: -1, end: 2 })
-}
-
-/// The product of the lists of this sort and of a range.
-fn product(alloc: Global, item: Sort) -> Result<Sort, AllocError> {
-    let mut parts = Items::new(alloc);
-    put_parts(&mut parts, Sort::List(Boxed::new(alloc, item)?))?;
-    Ok(Sort::Product(parts))
 }
 
 fn is_copied_sort(alloc: Global, sort: &Sort) -> Result<bool, AllocError> {
@@ -118,18 +109,20 @@ fn is_kin(alloc: Global, sort: &Sort, kin: &Sort) -> Result<bool, AllocError> {
     Ok(found.is_same(kin))
 }
 
-fn sorts_differ(rt: &impl Abort, alloc: Global, sort: &Sort) -> Result<(), AllocError> {
-    let kin = product(alloc, Sort::Integer)?;
-    assert!(rt; !sort.is_same(&kin));
-    assert!(rt; is_kin(alloc, sort, &kin)?);
-    Ok(())
+/// Whether a product of the lists of a sort and a range is another sort than its kin.
+fn differs_from_its_kin(alloc: Global, sort: &Sort) -> Result<bool, AllocError> {
+    let kin = sort_of(alloc, "Product/2 List Integer Range/-1/2")?;
+    Ok(!sort.is_same(&kin) && is_kin(alloc, sort, &kin)?)
+}
+
+fn is_copied_and_differs(alloc: Global, sort: &Sort) -> Result<bool, AllocError> {
+    Ok(is_copied_sort(alloc, sort)? && differs_from_its_kin(alloc, sort)?)
 }
 
 #[test]
 fn sorts(rt: HostRuntime) -> Result<(), Fail> {
-    let sort = product(rt.alloc(), Sort::Natural)?;
-    assert!(rt; is_copied_sort(rt.alloc(), &sort)?);
-    sorts_differ(&rt, rt.alloc(), &sort)?;
+    let sort = sort_of(rt.alloc(), "Product/2 List Natural Range/-1/2")?;
+    assert!(rt; is_copied_and_differs(rt.alloc(), &sort)?);
     Ok(())
 }
 
