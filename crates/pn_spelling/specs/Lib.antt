@@ -1,0 +1,11 @@
+pub mod Parts
+pub mod ReadSorts
+pub mod ReadTerms
+pub mod ReadDeclarations
+pub mod ReadNets
+pub mod Writing
+pub mod WriteSorts
+pub mod WriteTerms
+pub mod WriteDeclarations
+pub mod WriteNets
+pub mod Writable
