@@ -1,0 +1,4 @@
+pub mod KidLemmas
+pub mod InsideLemmas
+pub mod PartsLemmas
+pub mod PrefixLemmas
