@@ -1,0 +1,11 @@
+use Rattle.pn_writer.proofs.GivingLemmas.{entry, inside}
+use Rattle.pn_writer.proofs.terms.add_term_in.Goals as goal
+
+pub begin-requires-clause-name : goal.begin-requires-clause-name
+begin-requires-clause-name c = (entry _ _ _ _ _ c.requires).name
+
+pub begin-requires-clause-depth : goal.begin-requires-clause-depth
+begin-requires-clause-depth c = (entry _ _ _ _ _ c.requires).room.room
+
+pub add_term-requires : goal.add_term-requires
+add_term-requires c = inside _ _ _ _ _ _ _ c.requires c.in_ok-begin.ensures

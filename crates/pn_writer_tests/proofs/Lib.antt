@@ -1,0 +1,3 @@
+pub mod SampleLemmas
+pub mod PartLemmas
+pub mod ColouredLemmas
