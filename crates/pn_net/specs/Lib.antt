@@ -1,0 +1,11 @@
+pub mod Orders
+pub mod Objects
+pub mod Ids
+pub mod Links
+pub mod Ends
+pub mod Labels
+pub mod Flattening
+pub mod Typing
+pub mod Documents
+pub mod Typed
+pub mod Sound
