@@ -1,0 +1,6 @@
+pub mod Flat
+pub mod Gathering
+pub mod Sides
+pub mod Naming
+pub mod Following
+pub mod Linking
