@@ -11,5 +11,5 @@ mod values;
 
 pub use members::{has_value, is_text};
 pub use ordinals::ordinal;
-pub use sizes::size;
+pub use sizes::{count_between, size};
 pub use values::nth;

@@ -62,8 +62,9 @@ pub(crate) fn width(widths: &[u32], declaration: u32) -> u32
     }
 }
 
-/// How many whole numbers there are from `start` to `end`.
-fn count_between(start: i64, end: i64) -> u128
+/// How many whole numbers there are from `start` to `end`; none where `end` is the lower. Takes no
+/// memory.
+pub fn count_between(start: i64, end: i64) -> u128
     ensures value { result ≡ count_between start end }
     ensures most { result ≤ 2 ^ 64 }
 {

@@ -4,3 +4,4 @@ pub mod Lists
 pub mod Bytes
 pub mod Contained
 pub mod Results
+pub mod Each

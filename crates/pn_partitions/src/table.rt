@@ -8,23 +8,21 @@ ghost use Rattle.pn_names.specs.Names.{names_of, widths_of};
 ghost use Rattle.pn_partitions.specs.Partitions.{is_splittable, Splits, IsPartTable};
 ghost use Rattle.pn_partitions.specs.Tables.{enumeration_place, range_place, place_of, places_in, values_listed, AreEachOnce, IsFilled, IsSpoilt};
 
+use pn_carriers::count_between;
 use pn_names::{Index, constant_count};
 use pn_syntax::{ConstExpr, Declaration, PartElement};
 use pn_values::Sort;
 use std::alloc::{AllocError, Global};
 
 /// The most values that a range may have to be split.
-const MOST_VALUES: i128 = 1048576;
+const MOST_VALUES: u128 = 1048576;
 
 /// How many whole numbers there are from `start` to `end`, where these are not too many to be split.
 fn range_size(start: i64, end: i64) -> Option<usize>
     ensures sized { IfSome result (λ n. n ≡ count_between start end) }
     ensures few { is_some result ≡ nat_le (count_between start end) 1048576 }
 {
-    if end < start {
-        return Some(0);
-    }
-    let count = end as i128 - start as i128 + 1;
+    let count = count_between(start, end);
     if count <= MOST_VALUES {
         Some(count as usize)
     } else {
@@ -62,9 +60,8 @@ fn enumeration_place(index: &Index, declaration: u32, value: &ConstExpr) -> Opti
     }
 }
 
-/// The place of a constant in a range that is not too large to be split.
+/// The place of a constant in a range.
 fn range_place(first: i64, last: i64, value: &ConstExpr) -> Option<usize>
-    requires { count_between first last ≤ 1048576 }
     ensures { result ≡ range_place first last value.now }
 {
     match value {
@@ -76,7 +73,7 @@ fn range_place(first: i64, last: i64, value: &ConstExpr) -> Option<usize>
             ..
         } => {
             if *start == first && *end == last && first <= *value && *value <= last {
-                Some((*value - first) as usize)
+                Some(value.abs_diff(first) as usize)
             } else {
                 None
             }

@@ -41,7 +41,8 @@ use Rattle.pn_spelling.specs.ReadSorts.{no_sort, sort_read}
 use Rattle.pn_spelling.specs.Writing.{attribute, made}
 use Rattle.pn_spelling.specs.WriteDeclarations.{body_element, constant_element, declaration_element, declarations_element, named_attrs, part_element, value_element}
 use Rattle.pn_spelling.specs.WriteSorts.{sort_element}
-use Rattle.pn_round_trip.proofs.KidLemmas.{HasPlace, Stands, StandsFor, each, elements_again, elements_shape, filled_elements, filled_first, filled_for, filled_split, filled_there, filtered, found_first, leaf_shape, placed_for, shape_from, shape_with, shaped_elements, spot_first, stand_among, stands_for_only, the_only}
+use Rattle.pn_facts.proofs.Each.{each, filtered, found_first}
+use Rattle.pn_round_trip.proofs.KidLemmas.{HasPlace, Stands, StandsFor, elements_again, elements_shape, filled_elements, filled_first, filled_for, filled_split, filled_there, leaf_shape, placed_for, shape_from, shape_with, shaped_elements, spot_first, stand_among, stands_for_only, the_only}
 use Rattle.pn_round_trip.proofs.ReturnLemmas.{KidReturns, Step, all_return, kids_read, kids_stand}
 use Rattle.pn_round_trip.proofs.SortLemmas.{named, sort_again, sort_around, sort_bare_twice, sort_element_alike, sort_name, sort_returns}
 use Rattle.pn_round_trip.proofs.TermLemmas.{range_constant_again, range_constant_returns}

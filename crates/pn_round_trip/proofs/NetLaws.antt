@@ -39,7 +39,8 @@ use Rattle.pn_spelling.specs.ReadNets.{declarations_label, is_prefix, kind_read,
 use Rattle.pn_spelling.specs.WriteNets.{declaration_label, head_kids, name_element, net_element, page_element, prefix_attr, tree_of_net}
 use Rattle.pn_spelling.specs.Writing.{made}
 use Rattle.pn_spelling.proofs.WriteLemmas.{page_made}
-use Rattle.pn_round_trip.proofs.KidLemmas.{filtered, elements_shape, shaped_elements}
+use Rattle.pn_facts.proofs.Each.{filtered}
+use Rattle.pn_round_trip.proofs.KidLemmas.{elements_shape, shaped_elements}
 use Rattle.pn_round_trip.proofs.GroupNetLaws.{Group, AreCalled, fit_shape, groups_shape, members_of}
 use Rattle.pn_round_trip.proofs.LabelLaws.{Anything, opaque_slot, some_same}
 use Rattle.pn_round_trip.proofs.ObjectNetLaws.{HeadRow, head_back, head_called, head_fits, head_kids_are, id_rule, id_there, joined_kids, list_field, name_group, name_slot, none_same, opaque_group, had_slot, head_such, id_fits}

@@ -7,8 +7,6 @@ use Rattle.std.specs.Char.{is_ascii_digit}
 use Rattle.std.specs.Fmt.{decimal, signed_decimal}
 use Rattle.std.specs.Str.Parse.{digits_value}
 use Rattle.std.proofs.lemmas.Bool.Decides.{nat_tests}
-use Rattle.std.specs.Str.{all_ascii_digits}
-use Rattle.std.proofs.lemmas.Str.Parse.{IsNumeralModel, numerals_by_value, tells_all_ascii_digits}
 use Rattle.pn_shape.proofs.DecimalLemmas.{natural_decimal, negative_decimal}
 use Rattle.pn_shape.specs.Numbers.{behind_space, digits_up_to, is_blank, number_in, numeral_in, signed_in}
 

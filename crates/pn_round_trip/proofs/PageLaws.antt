@@ -39,7 +39,8 @@ use Rattle.pn_spelling.specs.Writing.{all_kids, made}
 use Rattle.pn_spelling.proofs.PageLemmas.{page_read_is}
 use Rattle.pn_spelling.proofs.WriteLemmas.{page_made}
 use Rattle.pn_round_trip.proofs.DeclarationLemmas.{declarations_same_again, declarations_shaped_again}
-use Rattle.pn_round_trip.proofs.KidLemmas.{filtered, each, elements_shape, shaped_elements, shallower}
+use Rattle.pn_facts.proofs.Each.{filtered, each}
+use Rattle.pn_round_trip.proofs.KidLemmas.{elements_shape, shaped_elements, shallower}
 use Rattle.pn_round_trip.proofs.SortLemmas.{sort_same_again, sort_shaped_again}
 use Rattle.pn_round_trip.proofs.TermLemmas.{term_same_again, term_shaped_again}
 use Rattle.pn_round_trip.proofs.GroupNetLaws.{Group, AreCalled, fit_shape, members_of}
@@ -105,11 +106,11 @@ declaration_law k had =
 
 -- one layer of a page
 
-abbrev PageLayer : Type 0
+abbrev pub PageLayer : Type 0
 PageLayer = layer.Page-F Page
 
 -- without offsets
-abbrev bare_page_layer : PageLayer → PageLayer
+abbrev pub bare_page_layer : PageLayer → PageLayer
 bare_page_layer l = record {
   id = l.id;
   head = head_without_offsets l.head;
@@ -123,7 +124,7 @@ bare_page_layer l = record {
   at = 0;
 }
 
-bare_page_is : (p : Page) → page_without_offsets p ≡ roll-Page (bare_page_layer (out-Page p))
+pub bare_page_is : (p : Page) → page_without_offsets p ≡ roll-Page (bare_page_layer (out-Page p))
 bare_page_is p = fold_out-Page Page page_at_zero p ∙ refl
 
 -- as it is read

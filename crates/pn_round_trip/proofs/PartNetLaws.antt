@@ -26,7 +26,8 @@ use Rattle.pn_spelling.specs.Parts.{child_elements, elements_among, child_named,
 use Rattle.pn_spelling.specs.ReadNets.{is_opaque_part, opaque_parts}
 use Rattle.pn_spelling.specs.WriteNets.{kids_of}
 use Rattle.pn_round_trip.specs.Spellable.{AreKept, IsHadWith}
-use Rattle.pn_round_trip.proofs.KidLemmas.{filtered, Stands, elements_again, filled_elements, filled_first, stand_among}
+use Rattle.pn_facts.proofs.Each.{filtered}
+use Rattle.pn_round_trip.proofs.KidLemmas.{Stands, elements_again, filled_elements, filled_first, stand_among}
 use Rattle.pn_round_trip.proofs.GroupNetLaws.{Group, FitsAt, IsCalled, AreCalled, members_of, opaque_name, picked, picked_is}
 
 -- what is, offsets aside, what an element of this tag spells is such a thing; such a thing is written as an element of this tag without a fault of shape, and reads back as the same

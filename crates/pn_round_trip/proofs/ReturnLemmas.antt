@@ -17,7 +17,8 @@ use Rattle.pn_shape.specs.declared.tag.Tag.{Tag}
 use Rattle.pn_shape.proofs.PlaceLemmas.{spot_fills, tag_is}
 use Rattle.pn_spelling.specs.Parts.{child_elements}
 use Rattle.pn_spelling.specs.Writing.{all_kids, made}
-use Rattle.pn_round_trip.proofs.KidLemmas.{Stands, StandsFor, each, elements_again, map_each, one_of, shape_with, stand_among}
+use Rattle.pn_facts.proofs.Each.{each, map_each, one_of}
+use Rattle.pn_round_trip.proofs.KidLemmas.{Stands, StandsFor, elements_again, shape_with, stand_among}
 use Rattle.pn_round_trip.proofs.SortLemmas.{named}
 
 pub slot_at : (P : Slot → Type 0) (slots : List Slot) (i : ℕ) (slot : Slot) → AllByRecursion P slots → slice_get slots i ≡ Some slot → P slot

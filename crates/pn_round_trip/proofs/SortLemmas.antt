@@ -25,7 +25,7 @@ use Rattle.pn_syntax.specs.declared.sort_expr.SortNode.TheOpen as layer
 use Rattle.pn_syntax.specs.declared.sort_expr.SortNode.TheVariants as nodes
 use Rattle.pn_syntax.specs.declared.sort_expr.SortNode.TheVariants.{rolls-Dot, rolls-Bool, rolls-Range, rolls-Product, rolls-User, rolls-Integer, rolls-Natural, rolls-Positive, rolls-Text, rolls-List}
 use Rattle.pn_syntax.specs.declared.sort_expr.SortNode.TheViews.{roll-SortNode, out-SortNode, out-roll-SortNode}
-use Rattle.pn_syntax.specs.declared.sort_expr.SortNode.TheFolds.{fold-SortNode, fold_out-SortExpr, fold_out-SortNode}
+use Rattle.pn_syntax.specs.declared.sort_expr.SortNode.TheFolds.{fold-SortNode, fold_out-SortExpr}
 use Rattle.pn_shape.specs.Attributes.{form_fault, lack_fault, rule_named, ruled_fault, unless, attr_fault}
 use Rattle.pn_shape.specs.Faults.{IsShapedSort, fill_faults, IsShaped}
 use Rattle.pn_shape.specs.Numbers.{number_in}
@@ -47,7 +47,9 @@ use Rattle.pn_spelling.specs.ReadSorts.{first_sort, sort_node, sort_read, no_sor
 use Rattle.pn_spelling.specs.Writing.{attribute, attributed, made, enclosing}
 use Rattle.pn_spelling.specs.WriteSorts.{range_element, sort_element, sort_step}
 use Rattle.pn_spelling.proofs.ReadLemmas.{sort_of_parts, sort_read_is}
-use Rattle.pn_round_trip.proofs.KidLemmas.{StandsFor, all_fill, leaf_shape, each, each_both, elements_again, elements_shape, place_there, shaped_elements, map_each, one_of, shallower, shape_with, stands_for_only, the_only}
+use Rattle.pn_spelling.proofs.WriteLemmas.{sort_at}
+use Rattle.pn_facts.proofs.Each.{each, each_both, map_each, one_of}
+use Rattle.pn_round_trip.proofs.KidLemmas.{StandsFor, all_fill, leaf_shape, elements_again, elements_shape, place_there, shaped_elements, shallower, shape_with, stands_for_only, the_only}
 use Rattle.pn_round_trip.proofs.NumberLemmas.{number_again}
 use Rattle.pn_round_trip.proofs.OffsetLemmas.{SortLayer, bare_sort_layer, bare_sort_node, bare_sort_rolled, of_bare_sort}
 
@@ -57,11 +59,7 @@ sort_again e = sort_element (sort_read e)
 
 pub sort_element_at : (e : SortExpr) (l : SortLayer) → roll-SortNode l ≡ e.node
     → sort_element e ≡ sort_step (map-SortNode SortNode SortExpr Element Element (fold-SortNode Element Element sort_step (λ e. e.node)) sort_element l)
-sort_element_at e l is =
-    fold_out-SortExpr Element Element sort_step (λ e. e.node) e
-    ∙ fold_out-SortNode Element Element sort_step (λ e. e.node) e.node
-    ∙ ap (λ m. sort_step (map-SortNode SortNode SortExpr Element Element (fold-SortNode Element Element sort_step (λ e. e.node)) sort_element m))
-    (ap out-SortNode (sym is) ∙ out-roll-SortNode l)
+sort_element_at e l is = sort_at e l (ap out-SortNode (sym is) ∙ out-roll-SortNode l)
 
 pub bare_sort_at : (e : SortExpr) (l : SortLayer) → roll-SortNode l ≡ e.node → sort_without_offsets e ≡ record { at = 0; node = roll-SortNode (bare_sort_layer l) }
 bare_sort_at e l is =

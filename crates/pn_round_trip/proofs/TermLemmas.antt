@@ -25,7 +25,7 @@ use Rattle.pn_syntax.specs.declared.term.TermNode.TheOpen as layer
 use Rattle.pn_syntax.specs.declared.term.TermNode.TheVariants as nodes
 use Rattle.pn_syntax.specs.declared.term.TermNode.TheVariants.{rolls-Variable, rolls-UserOp, rolls-Bool, rolls-Number, rolls-RangeConst, rolls-Text, rolls-All, rolls-Empty, rolls-EmptyList, rolls-PartitionOf, rolls-Apply}
 use Rattle.pn_syntax.specs.declared.term.TermNode.TheViews.{roll-TermNode, out-TermNode, out-roll-TermNode}
-use Rattle.pn_syntax.specs.declared.term.TermNode.TheFolds.{fold-TermNode, fold_out-Term, fold_out-TermNode}
+use Rattle.pn_syntax.specs.declared.term.TermNode.TheFolds.{fold-TermNode, fold_out-Term}
 use Rattle.pn_shape.specs.Attributes.{form_fault}
 use Rattle.pn_shape.specs.Faults.{fill_faults, IsShaped, IsShapedTerm}
 use Rattle.pn_shape.specs.Rules.{Saying, alternatives, is_had, rule_for, slots_between}
@@ -49,7 +49,9 @@ use Rattle.pn_spelling.specs.WriteSorts.{range_element, sort_element, sort_step}
 use Rattle.pn_spelling.specs.WriteTerms.{constant_of, number_sort_name, subterm, term_element, term_step, truth_text}
 use Rattle.pn_spelling.proofs.OperatorLemmas.{operator_by_own_name}
 use Rattle.pn_spelling.proofs.ReadLemmas.{term_of_parts, term_read_is}
-use Rattle.pn_round_trip.proofs.KidLemmas.{Stands, StandsFor, each, each_both, elements_again, elements_shape, leaf_shape, map_each, one_of, place_there, shallower, shape_with, shaped_elements, stand_among, stands_for_only, the_only}
+use Rattle.pn_spelling.proofs.WriteLemmas.{term_at}
+use Rattle.pn_facts.proofs.Each.{each, each_both, map_each, one_of}
+use Rattle.pn_round_trip.proofs.KidLemmas.{Stands, StandsFor, elements_again, elements_shape, leaf_shape, place_there, shallower, shape_with, shaped_elements, stand_among, stands_for_only, the_only}
 use Rattle.pn_round_trip.proofs.OffsetLemmas.{TermLayer, bare_term_layer, bare_term_node, bare_term_rolled, of_bare_sort, of_bare_term, with_bare_sort}
 use Rattle.pn_round_trip.proofs.SortLemmas.{basis_around, sort_around, named, number_of, range_again, right_number, sort_bare_twice}
 
@@ -63,11 +65,7 @@ subterm_again x = enclosing (codes "subterm") (term_element (term_in x))
 
 pub term_element_at : (e : Term) (l : TermLayer) → roll-TermNode l ≡ e.node
     → term_element e ≡ term_step (map-TermNode TermNode Term Element Element (fold-TermNode Element Element term_step (λ e. e.node)) term_element l)
-term_element_at e l is =
-    fold_out-Term Element Element term_step (λ e. e.node) e
-    ∙ fold_out-TermNode Element Element term_step (λ e. e.node) e.node
-    ∙ ap (λ m. term_step (map-TermNode TermNode Term Element Element (fold-TermNode Element Element term_step (λ e. e.node)) term_element m))
-    (ap out-TermNode (sym is) ∙ out-roll-TermNode l)
+term_element_at e l is = term_at e l (ap out-TermNode (sym is) ∙ out-roll-TermNode l)
 
 pub bare_term_at : (e : Term) (l : TermLayer) → roll-TermNode l ≡ e.node → term_without_offsets e ≡ record { at = 0; node = roll-TermNode (bare_term_layer l) }
 bare_term_at e l is =

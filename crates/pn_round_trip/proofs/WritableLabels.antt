@@ -32,7 +32,7 @@ use Rattle.pn_spelling.specs.WriteDeclarations.{declarations_element}
 use Rattle.pn_spelling.specs.WriteNets.{declaration_label, head_kids, kids_of, label_element, name_element, number_label}
 use Rattle.pn_spelling.specs.WriteSorts.{sort_element}
 use Rattle.pn_spelling.specs.WriteTerms.{term_element}
-use Rattle.pn_round_trip.proofs.KidLemmas.{filtered}
+use Rattle.pn_facts.proofs.Each.{filtered}
 use Rattle.pn_round_trip.proofs.WritableDeclarations.{declarations_fit}
 use Rattle.pn_round_trip.proofs.WritableParts.{AllFit, around_fits, both_fit, elements_fit, find_is, first_fits, inner_first, inside_fit, kids_of_fit, made_fits, needed_named, needed_one, only_inside, same_tag, text_fits, whole_of}
 use Rattle.pn_round_trip.proofs.WritableSorts.{HasSorts, sort_fits, sort_slot}

@@ -35,7 +35,8 @@ use Rattle.pn_shape.proofs.PlaceLemmas.{one_is, spot_fills, tag_is}
 use Rattle.pn_spelling.specs.Parts.{child_elements, child_named, children_named, elements_among, has_name}
 use Rattle.pn_spelling.specs.Writing.{all_kids, attributed, attribute, enclosing, made, text_element}
 use Rattle.pn_spelling.specs.WriteNets.{kids_of}
-use Rattle.pn_round_trip.proofs.KidLemmas.{Stands, each_both, elements_shape, filtered, stand_among, the_only}
+use Rattle.pn_facts.proofs.Each.{each_both, filtered}
+use Rattle.pn_round_trip.proofs.KidLemmas.{Stands, elements_shape, stand_among, the_only}
 use Rattle.pn_round_trip.proofs.ReturnLemmas.{slot_at}
 
 -- kids that are elements, of so many levels at most

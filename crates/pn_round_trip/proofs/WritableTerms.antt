@@ -1,5 +1,5 @@
 -- The element that is written for a term that was read may stand in a tree, where the element that was read may.
-use Rattle.std.proofs.Common.{◌≡◌, ℕ, pos, zero, suc, Bool, true, false, cond, ◌&&◌, List, [], ◌∷◌, ◌++◌, map, codes, Option, Some, None, refl, sym, ap, subst, ◌∙◌, arith}
+use Rattle.std.proofs.Common.{◌≡◌, ℕ, pos, zero, suc, Bool, true, false, cond, ◌&&◌, List, [], ◌∷◌, map, codes, Option, Some, None, refl, sym, ap, subst, ◌∙◌, arith}
 use Rattle.std.specs.List.{AllByRecursion, slice_get}
 use Rattle.std.specs.Option.{option_map, unwrap_or}
 use Rattle.std.specs.Fmt.{signed_decimal}
@@ -44,7 +44,8 @@ use Rattle.pn_spelling.specs.WriteSorts.{range_element, sort_element}
 use Rattle.pn_spelling.specs.WriteTerms.{constant_of, number_sort_name, subterm, term_element, term_step, truth_text}
 use Rattle.pn_spelling.proofs.OperatorLemmas.{operator_by_own_name}
 use Rattle.pn_spelling.proofs.ReadLemmas.{term_of_parts, term_read_is}
-use Rattle.pn_round_trip.proofs.KidLemmas.{Stands, each, one_of, only_spot, stand_among}
+use Rattle.pn_facts.proofs.Each.{each, one_of}
+use Rattle.pn_round_trip.proofs.KidLemmas.{Stands, only_spot, stand_among}
 use Rattle.pn_round_trip.proofs.SortLemmas.{named}
 use Rattle.pn_round_trip.proofs.TermLemmas.{basis_there, number_sorts_there, operator_node, ranges_there, subterms_there, term_again, term_element_at}
 use Rattle.pn_round_trip.proofs.WritableParts.{AllFit, HasOnly, around_fits, attributed_fits, first_fits, inside_fit, made_fits, one_fits, only_inside, value_attrs, whole_of}

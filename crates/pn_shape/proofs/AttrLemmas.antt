@@ -12,7 +12,7 @@ use Rattle.pn_tree.specs.Elements.{attr_value}
 use Rattle.pn_tree.specs.declared.element.Attr.{Attr}
 use Rattle.pn_shape.specs.Attributes.{unless, form_fault, rule_named, ruled_fault, attr_fault, lack_fault}
 use Rattle.pn_shape.specs.Faults.{is_count, text_fault}
-use Rattle.pn_shape.specs.Numbers.{count_in, number_in, truth_in, may_be_id, net_kind, namespace}
+use Rattle.pn_shape.specs.Numbers.{count_in, number_in, may_be_id, net_kind}
 use Rattle.pn_shape.specs.Rules.{attr_name}
 use Rattle.pn_shape.specs.declared.rule.AttrRule.{AttrRule}
 use Rattle.pn_shape.specs.declared.rule.Content.TheVariants as contents
@@ -53,9 +53,6 @@ value_right rules (a ∷ attrs) name v h is = step (bytes_eq a.name name) refl i
 
 -- what a value of each form is
 
-pub namespace_is : (v : List ℕ) → form_fault form.Namespace v ≡ None → v ≡ namespace
-namespace_is v h = (bytes_eq-Decides v namespace).0 (holds (bytes_eq v namespace) reason.WrongNamespace h)
-
 pub kind_there : (v : List ℕ) → form_fault form.NetType v ≡ None → (k : Kind) × (net_kind v ≡ Some k)
 kind_there v h = there (net_kind v) (holds (is_some (net_kind v)) reason.WrongNetType h)
 
@@ -64,9 +61,6 @@ id_right v h = holds (may_be_id v) reason.BadId h
 
 pub number_there : (v : List ℕ) → form_fault form.Number v ≡ None → (z : ℤ) × (number_in v ≡ Some z)
 number_there v h = there (number_in v) (holds (is_some (number_in v)) reason.BadNumber h)
-
-pub truth_there : (v : List ℕ) → form_fault form.Truth v ≡ None → (b : Bool) × (truth_in v ≡ Some b)
-truth_there v h = there (truth_in v) (holds (is_some (truth_in v)) reason.BadValue h)
 
 -- the number that stands in a `text`
 pub count_there : (least : ℕ) (text : List ℕ) → text_fault (contents.Count least) text ≡ None → (n : ℕ) × (count_in text ≡ Some n) × (least ≤ n)

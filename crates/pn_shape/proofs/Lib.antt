@@ -6,3 +6,4 @@ pub mod AttrLemmas
 pub mod ShapedLemmas
 pub mod PlaceLemmas
 pub mod WrittenLemmas
+pub mod RowLemmas

@@ -95,14 +95,8 @@ placed_at k says [] i c h is = absurd cc
 placed_at k says (d ∷ kids) zero c h is = let same : d ≡ c = cc in subst (IsPlaced k says) same h.0
 placed_at k says (d ∷ kids) (suc i) c h is = placed_at k says kids i c h.1 is
 
-pub element_placed : (k : Kind) (says : Saying) (x : Element) → IsPlaced k says (children.Element x) → (s : Spot) × (spot_in k x.name 0 says.slots ≡ Some s) × IsShaped k s.tag x
-element_placed k says x h = subst (IsPlacedLayer k says) (out_element x) h
-
 pub placed_element : (k : Kind) (says : Saying) (x : Element) (s : Spot) → spot_in k x.name 0 says.slots ≡ Some s → IsShaped k s.tag x → IsPlaced k says (children.Element x)
 placed_element k says x s is h = subst (IsPlacedLayer k says) (sym (out_element x)) (s, is, h)
-
-pub text_placed : (k : Kind) (says : Saying) (t : List ℕ) → IsPlaced k says (children.Text t) → stray_fault says.content t ≡ None
-text_placed k says t h = subst (IsPlacedLayer k says) (out_text t) h
 
 pub placed_text : (k : Kind) (says : Saying) (t : List ℕ) → stray_fault says.content t ≡ None → IsPlaced k says (children.Text t)
 placed_text k says t h = subst (IsPlacedLayer k says) (sym (out_text t)) h

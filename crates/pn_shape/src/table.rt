@@ -69,10 +69,17 @@ macro_rules! as_slots {
 }
 
 /// The row of an element. Takes no memory.
-#[tactic(auto, unfolding(crate::specs::Rules::rule_for))]
 pub fn rule_of(tag: Tag) -> Rule
     ensures row { said_by result ≡ rule_for tag }
     ensures few { length result.slots.now ≤ 9 }
+{
+    table_row(tag)
+}
+
+/// The row of an element, as it stands in the table.
+#[tactic(auto, unfolding(crate::specs::Rules::rule_for))]
+fn table_row(tag: Tag) -> Rule
+    ensures { said_by result ≡ rule_for tag }
 {
     rules!(tag, op => operator_rule(op);
         Pnml "pnml" All Elements PNML_ATTRS PNML_SLOTS;
@@ -138,8 +145,7 @@ pub fn rule_of(tag: Tag) -> Rule
 /// The row of an operator's element.
 #[tactic(auto, unfolding(crate::specs::Rules::rule_for))]
 fn operator_rule(op: Op) -> Rule
-    ensures row { said_by result ≡ rule_for (Operator op) }
-    ensures few { length result.slots.now ≤ 9 }
+    ensures { said_by result ≡ rule_for (Operator op) }
 {
     Rule {
         name: op_name(op),
@@ -152,8 +158,7 @@ fn operator_rule(op: Op) -> Rule
 
 /// The places for the arguments of an operator.
 fn slots_for(op: Op) -> &'static [Slot]
-    ensures slots { result.now ≡ argument_slots op }
-    ensures few { length result.now ≤ 9 }
+    ensures { result.now ≡ argument_slots op }
 {
     with_rows!(as_slots, op)
 }

@@ -1,7 +1,6 @@
 -- Parts of the walk, one after another.
-use Rattle.std.proofs.Common.{◌≡◌, ℕ, ◌+◌, ◌≤◌, List, [], ◌++◌, drop, length, Option, Some, sym, ap, subst, ◌∙◌}
+use Rattle.std.proofs.Common.{◌≡◌, ℕ, ◌+◌, List, [], ◌++◌, drop, Option, Some, sym, ap, subst, ◌∙◌}
 use Rattle.std.specs.List.{flat_map, slice_get}
-use Rattle.std.proofs.Math.ListN.{drop_of_length-le}
 use Rattle.pn_facts.proofs.Lists.{drop_got}
 use Rattle.pn_faults.specs.declared.fault.Fault.{Fault}
 use Rattle.pn_faults.specs.declared.reason.Reason.{Reason}
@@ -28,9 +27,6 @@ pub goes_next : (old new next : Option Fault) (all xs rest : List Fault) → Goe
 goes_next old new next all xs rest g k =
     ap (λ o. lower o (least_fault rest)) k ∙ (lower-assoc new (least_fault xs) (least_fault rest) ∙ (ap (lower new) (sym (least_fault-append xs rest)) ∙ g))
 
-pub goes_end : (old new : Option Fault) (all rest : List Fault) → Goes old new all rest → rest ≡ [] → KeepsLower old new all
-goes_end old new all rest g none = sym (lower-none new) ∙ (ap (λ fs. lower new (least_fault fs)) (sym none) ∙ g)
-
 pub goes_at : (old new : Option Fault) (all xs rest : List Fault) → Goes old new all xs → xs ≡ rest → Goes old new all rest
 goes_at old new all xs rest g is = subst (Goes old new all) is g
 
@@ -38,6 +34,3 @@ pub flat_next : {X : Type 0} (f : X → List Fault) (xs : List X) (i : ℕ) (x :
     → Goes old new all (flat_map f (drop i xs)) → KeepsLower new next (f x) → Goes old next all (flat_map f (drop (i + 1) xs))
 flat_next f xs i x old new next all is g k =
     goes_next old new next all (f x) (flat_map f (drop (i + 1) xs)) (goes_at old new all (flat_map f (drop i xs)) (f x ++ flat_map f (drop (i + 1) xs)) g (ap (flat_map f) (drop_got xs i x is))) k
-
-pub flat_end : {X : Type 0} (f : X → List Fault) (xs : List X) (i : ℕ) (old new : Option Fault) (all : List Fault) → length xs ≤ i → Goes old new all (flat_map f (drop i xs)) → KeepsLower old new all
-flat_end f xs i old new all le g = goes_end old new all (flat_map f (drop i xs)) g (ap (flat_map f) (drop_of_length-le xs le))

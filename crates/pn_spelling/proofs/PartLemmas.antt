@@ -8,7 +8,6 @@ use Rattle.pn_tree.specs.declared.element.Element.{Element}
 use Rattle.pn_tree.specs.declared.element.Child.{Child}
 use Rattle.pn_tree.specs.declared.element.Child.TheOpen as layer
 use Rattle.pn_tree.specs.declared.element.Child.TheViews.{out-Child}
-use Rattle.pn_tree.specs.declared.element.Child.TheVariants.{rolls-Element}
 use Rattle.pn_tree.specs.declared.element.Child.TheVariants as children
 use Rattle.pn_tree.proofs.CutLemmas.{drop_at}
 use Rattle.pn_tree.proofs.ElementLemmas.{out_element, out_text}

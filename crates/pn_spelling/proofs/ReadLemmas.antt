@@ -12,7 +12,7 @@ use Rattle.pn_syntax.specs.declared.term.Term.{Term}
 use Rattle.pn_syntax.specs.declared.term.TermNode.TheVariants as nodes
 use Rattle.pn_spelling.specs.Parts.{child_elements, has_name}
 use Rattle.pn_spelling.specs.ReadSorts.{first_sort, no_sort, sort_in, sort_node, sort_read, sort_within}
-use Rattle.pn_spelling.specs.ReadTerms.{argument_in, first_term, no_term, operator_named, term_in, term_inside, term_node, term_read, term_within}
+use Rattle.pn_spelling.specs.ReadTerms.{no_term, operator_named, term_in, term_inside, term_node, term_read, term_within}
 use Rattle.pn_spelling.proofs.PartLemmas.{agree_first, agree_inside}
 
 -- a sort, by the sorts that stand in it
@@ -68,10 +68,6 @@ term_read_is e =
 -- the first of the sorts in an element is the sort in it
 pub first_sort_is : (e : Element) → first_sort (map sort_read (child_elements e)) ≡ sort_in e
 first_sort_is e = ap (λ o. unwrap_or o no_sort) (slice_get-map sort_read (child_elements e) 0)
-
--- the first of the arguments
-pub first_term_is : (e : Element) → first_term (map term_in (child_elements e)) ≡ argument_in e
-first_term_is e = ap (λ o. unwrap_or o no_term) (slice_get-map term_in (child_elements e) 0)
 
 lacks_name : (e : Element) (name : List ℕ) → (e.name ≡ name → ⊥) → has_name name e ≡ false
 lacks_name e name differ = by (bytes_eq e.name name) refl

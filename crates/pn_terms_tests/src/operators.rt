@@ -1,7 +1,6 @@
 //! What no clause says of operators: the table as the documents of nets write it.
 
 use pn_operators::{Kind, Op, find_op, laws, op_name, row_of};
-use std::process::Abort;
 use std::test::Fail;
 
 /// The rows in order: the name, the first kind of nets, the least and the greatest number of

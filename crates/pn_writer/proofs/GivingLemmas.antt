@@ -60,11 +60,6 @@ pub added : (name : List ℕ) (attrs : List Attr) (kids : List Child) (b d f g :
     → g ≡ at_innermost (with_kid (children.Element (made name attrs kids))) b
 added name attrs kids b d f g some begin give end = end ∙ ap ended (give ∙ ap (at_innermost (with_kids kids)) begin) ∙ ended_inside b (made name attrs kids) some
 
--- an element was begun and ended
-pub added_leaf : (name : List ℕ) (attrs : List Attr) (b d g : Building) → IsSome (innermost b) → d ≡ opened (made name attrs []) b → g ≡ ended d
-    → g ≡ at_innermost (with_kid (children.Element (made name attrs []))) b
-added_leaf name attrs b d g some begin end = end ∙ ap ended begin ∙ ended_inside b (made name attrs []) some
-
 changed_by : (f : Element → Element) (b : Building) (es : List Element) → b.open_elements ≡ es → IsSome (innermost b) → IsSome (innermost (at_innermost f b)) × (length (at_innermost f b).open_elements ≡ length b.open_elements)
 changed_by f b [] is some = cc
 changed_by f b (e ∷ es) is some = rw is (refl, refl)
