@@ -20,7 +20,7 @@ use Rattle.pn_tree.specs.declared.tables.Node.{Node}
 use Rattle.pn_tree.proofs.CutLemmas.{cut_more, cut_rest, cut_last, cut_push, cut_empty, all_one, all_none, all_first, all_front, all_back, all_drop, all_cut, last_same}
 use Rattle.pn_tree.proofs.OpenLemmas.{open_begun, open_closed, parts_at}
 use Rattle.pn_tree.proofs.TableLemmas.{head_grown, heads_grown, slots_grown, within_more, same_element, kids_grown, name_grown, attrs_grown, element_grown, element_is, levels_same, kids_levels_same, root_same}
-use Rattle.pn_tree.proofs.SiteLemmas.{put_says, put_there, bytes_grown, SideLast, side_push, side_last, stacked-push, so_far_grown, stacked_grown}
+use Rattle.pn_tree.proofs.SiteLemmas.{bytes_grown, SideLast, side_push, side_last, stacked-push, so_far_grown, stacked_grown}
 
 -- the beginning of an element
 
@@ -29,10 +29,10 @@ pub record WasBegun (t u : TableLists) (ps qs : List Slot) (outer around : List 
   pub own : so_far u qs g ≡ record { name = name; at = at; attrs = []; kids = [] }
   pub others : stacked u qs around [] ≡ all_open t ps i outer
 
-begun_own : (t u : TableLists) (qs : List Slot) (g : Node) (name : List ℕ) (at attrs kids : ℕ) → IsNewNode t.bytes u.bytes name at attrs kids g
+begun_own : (t u : TableLists) (qs : List Slot) (g : Node) (name : List ℕ) (at attrs kids : ℕ) → IsNewNode u.bytes name at attrs kids g
     → so_far u qs g ≡ record { name = name; at = at; attrs = []; kids = [] }
 begun_own t u qs g name at attrs kids b =
-    let n : cut g.name u.bytes ≡ name = put_says t.bytes u.bytes name g.name b.called in
+    let n : cut g.name u.bytes ≡ name = b.called in
     let o : g.at ≡ at = b.offset in
     let a : map (attr_in u.bytes) (cut g.attrs u.attrs) ≡ [] =
     ap (λ s. map (attr_in u.bytes) (cut s u.attrs)) b.own_attrs ∙ ap (map (attr_in u.bytes)) (cut_empty (record { start = attrs; end = attrs }) u.attrs refl) in
@@ -41,7 +41,7 @@ begun_own t u qs g name at attrs kids b =
     λ j. record { name = n j; at = o j; attrs = a j; kids = k j }
 
 begun_all : (t u : TableLists) (ps qs : List Slot) (outer around : List Node) (i : Option Node) (g : Node) (name : List ℕ) (at : ℕ) → HasBytes t u
-    → IsNewNode t.bytes u.bytes name at (length t.attrs) (length qs) g → is_name name ≡ true → length (all_open t ps i outer) < 256 → are_open (all_open t ps i outer) ≡ true
+    → IsNewNode u.bytes name at (length t.attrs) (length qs) g → is_name name ≡ true → length (all_open t ps i outer) < 256 → are_open (all_open t ps i outer) ≡ true
     → All (IsSlotIn u.bytes (length u.nodes)) qs → All (IsHeadIn u) around → AreSideBySide 0 around (length qs) → stacked u qs around [] ≡ all_open t ps i outer
     → WasBegun t u ps qs outer around i g name at
 begun_all t u ps qs outer around i g name at h b n lt fits places heads side others =
@@ -56,7 +56,7 @@ begun_all t u ps qs outer around i g name at h b n lt fits places heads side oth
         places = places;
         heads = heads;
         head = record {
-          name = put_there t.bytes u.bytes name g.name b.called;
+          name = b.there;
           attrs = record { ordered = omega (arith, ap (λ (s : Span). s.start) b.own_attrs, ap (λ (s : Span). s.end) b.own_attrs); within = omega (arith, attrs_end) };
         };
         around = subst (AreSideBySide 0 around) (sym first) side;
@@ -71,7 +71,7 @@ begun_all t u ps qs outer around i g name at h b n lt fits places heads side oth
     }
 
 pub begun_changed : (t u : TableLists) (ps qs : List Slot) (outer around : List Node) (i : Option Node) (g : Node) (name : List ℕ) (at : ℕ) → HasBytes t u
-    → IsNewNode t.bytes u.bytes name at (length t.attrs) (length qs) g → IsEnclosed i outer ps around qs → AreWithin t → IfSome i (IsOpen t ps outer) → is_name name ≡ true
+    → IsNewNode u.bytes name at (length t.attrs) (length qs) g → IsEnclosed i outer ps around qs → AreWithin t → IfSome i (IsOpen t ps outer) → is_name name ≡ true
     → length (all_open t ps i outer) < 256 → WasBegun t u ps qs outer around i g name at
 begun_changed t u ps qs outer around None g name at h b e w o n lt =
     begun_all t u ps qs outer around None g name at h b n lt refl (subst (All (IsSlotIn u.bytes (length u.nodes))) (sym e.1) (all_none (IsSlotIn u.bytes (length u.nodes))))

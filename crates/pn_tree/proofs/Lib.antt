@@ -4,6 +4,7 @@ pub mod DepthLemmas
 pub mod BuildLemmas
 pub mod OpenLemmas
 pub mod CutLemmas
+pub mod PackLemmas
 pub mod TableLemmas
 pub mod SiteLemmas
 pub mod GivenLemmas

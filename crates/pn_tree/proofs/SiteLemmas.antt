@@ -3,7 +3,7 @@ use Rattle.std.proofs.Common.{◌≡◌, ℕ, suc, ◌+◌, ◌^◌, ◌<◌, �
 use Rattle.std.specs.List.{All}
 use Rattle.std.specs.Option.{option_map}
 use Rattle.std.specs.Str.{IsUtf8}
-use Rattle.std.specs.Vec.{vec_len, vec_capacity}
+use Rattle.std.specs.Vec.{vec_len}
 use Rattle.pn_text.specs.Characters.{is_name, is_text}
 use Rattle.std.proofs.lemmas.List.{length-map, map-append}
 use Rattle.pn_tree.specs.Tables.{cut, TableLists, attr_in, kid_in, element_in, IsSpan, IsTextIn, IsPairIn, IsSlotIn, IsHeadIn, IsNodeIn, AreWithin, HaveGrown, IsPut}
@@ -19,7 +19,7 @@ use Rattle.pn_tree.specs.declared.tables.Slot.TheVariants as slots
 use Rattle.pn_tree.specs.declared.tables.Node.{Node}
 use Rattle.pn_tree.specs.declared.tables.Tables.{Tables}
 use Rattle.pn_tree.specs.declared.site.Site.{Site}
-use Rattle.std.specs.declared.vec.Vec.{Vec}
+use Rattle.pn_tree.specs.Packed.{SlotList, NodeList}
 use Rattle.pn_tree.specs.Tables.{content}
 use Rattle.pn_tree.proofs.CutLemmas.{cut_more, cut_rest, cut_last, cut_push, all_one, all_none, all_first, all_others, all_cut}
 use Rattle.pn_tree.proofs.TreeLemmas.{Parts}
@@ -230,12 +230,12 @@ attr_at s u f name value end h k is e n v none new =
     (innermost_of t ps s.outer.items root s.inner f (λ x. x.kids ≡ []) is none)
     (innermost_of t ps s.outer.items root s.inner f (λ x. attr_value name x.attrs ≡ None) is new)
 
-pub room_same : {Z : Type 0} (many more : ℕ) (t u : Tables) (ps : Vec Slot Z) → u.kids ≡ t.kids → u.nodes ≡ t.nodes → HasSpare many more t ps → HasSpare many more u ps
+pub room_same : (many more : ℕ) (t u : Tables) (ps : SlotList) → u.kids ≡ t.kids → u.nodes ≡ t.nodes → HasSpare many more t ps → HasSpare many more u ps
 room_same many more t u ps k n r = record {
-  nodes = subst (λ v. vec_len v + many ≤ vec_capacity v) (sym n) r.nodes;
-  nodes_fit = subst (λ v. vec_len v + many < 2 ^ 32) (sym n) r.nodes_fit;
-  kids = subst (λ v. vec_len v + (vec_len ps + more) ≤ vec_capacity v) (sym k) r.kids;
-  kids_fit = subst (λ v. vec_len v + (vec_len ps + more) < 2 ^ 32) (sym k) r.kids_fit;
+  nodes = subst (λ (v : NodeList). length v.items + many ≤ v.capacity) (sym n) r.nodes;
+  nodes_fit = subst (λ (v : NodeList). length v.items + many < 2 ^ 32) (sym n) r.nodes_fit;
+  kids = subst (λ (v : SlotList). length v.items + (length ps.items + more) ≤ v.capacity) (sym k) r.kids;
+  kids_fit = subst (λ (v : SlotList). length v.items + (length ps.items + more) < 2 ^ 32) (sym k) r.kids_fit;
   places = r.places;
 }
 

@@ -1,6 +1,6 @@
 -- What the parts of a builder's calls do to its tables.
 use Rattle.std.specs.Prelude.{◌≡◌, ℕ, ◌≤◌, List, [], ◌∷◌, ◌++◌, length, take, drop, Option, Some, None, MatchOption}
-use Rattle.pn_tree.specs.Tables.{TableLists, HasGrown, IsPut}
+use Rattle.pn_tree.specs.Tables.{cut, TableLists, HasGrown, IsPut, IsTextIn}
 use Rattle.pn_tree.specs.declared.tables.Span.{Span}
 use Rattle.pn_tree.specs.declared.tables.Pair.{Pair}
 use Rattle.pn_tree.specs.declared.tables.Slot.{Slot}
@@ -8,8 +8,9 @@ use Rattle.pn_tree.specs.declared.tables.Slot.TheVariants as slots
 use Rattle.pn_tree.specs.declared.tables.Node.{Node}
 
 -- an element that was given nothing yet, where there are so many attributes and kids
-pub record IsNewNode (old new name : List ℕ) (at attrs kids : ℕ) (f : Node) : Type 0 where
-  pub called : IsPut old new name f.name
+pub record IsNewNode (bytes name : List ℕ) (at attrs kids : ℕ) (f : Node) : Type 0 where
+  pub there : IsTextIn bytes f.name
+  pub called : cut f.name bytes ≡ name
   pub offset : f.at ≡ at
   pub own_attrs : f.attrs ≡ record { start = attrs; end = attrs }
   pub own_kids : f.kids ≡ record { start = kids; end = kids }

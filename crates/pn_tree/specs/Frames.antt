@@ -1,8 +1,8 @@
 -- How a builder keeps the elements that are begun and not ended.
-use Rattle.std.specs.Prelude.{◌≡◌, ℕ, suc, ◌+◌, ◌-◌, ◌^◌, ◌<◌, ◌≤◌, Bool, true, ◌&&◌, List, [], ◌∷◌, ◌++◌, length, Option, Some, None, IfSome, vec_len, vec_capacity}
+use Rattle.std.specs.Prelude.{◌≡◌, ℕ, suc, ◌+◌, ◌-◌, ◌^◌, ◌<◌, ◌≤◌, Bool, true, ◌&&◌, List, [], ◌∷◌, ◌++◌, length, Option, Some, None, IfSome, vec_len}
 use Rattle.std.specs.List.{All}
 use Rattle.std.specs.Option.{option_map}
-use Rattle.std.specs.declared.vec.Vec.{Vec}
+use Rattle.pn_tree.specs.Packed.{SlotList}
 use Rattle.pn_tree.specs.Elements.{is_element, IsTree}
 use Rattle.pn_tree.specs.Building.{Building}
 use Rattle.pn_tree.specs.Tables.{TableLists, content, made_of, element_in, IsSlotIn, IsHeadIn, AreWithin}
@@ -55,12 +55,12 @@ pub record IsOpen (t : TableLists) (pending : List Slot) (outer : List Node) (f 
   pub fits : are_open (so_far t pending f ∷ stacked t pending outer []) ≡ true
 
 -- there is room for so many nodes, and for so many kids more than those that are to be placed
-pub record HasSpare {Z : Type 0} (many more : ℕ) (t : Tables) (pending : Vec Slot Z) : Type 0 where
-  pub nodes : vec_len t.nodes + many ≤ vec_capacity t.nodes
-  pub nodes_fit : vec_len t.nodes + many < 2 ^ 32
-  pub kids : vec_len t.kids + (vec_len pending + more) ≤ vec_capacity t.kids
-  pub kids_fit : vec_len t.kids + (vec_len pending + more) < 2 ^ 32
-  pub places : vec_len pending + more ≤ vec_capacity pending
+pub record HasSpare (many more : ℕ) (t : Tables) (pending : SlotList) : Type 0 where
+  pub nodes : length t.nodes.items + many ≤ t.nodes.capacity
+  pub nodes_fit : length t.nodes.items + many < 2 ^ 32
+  pub kids : length t.kids.items + (length pending.items + more) ≤ t.kids.capacity
+  pub kids_fit : length t.kids.items + (length pending.items + more) < 2 ^ 32
+  pub places : length pending.items + more ≤ pending.capacity
 
 -- the node is the root of a tree
 pub record IsRoot (t : TableLists) (node : ℕ) : Type 0 where

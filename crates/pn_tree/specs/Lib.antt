@@ -1,6 +1,7 @@
 pub mod Elements
 pub mod Depth
 pub mod Building
+pub mod Packed
 pub mod Tables
 pub mod Frames
 pub mod Changes

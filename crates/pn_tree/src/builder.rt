@@ -8,13 +8,16 @@ use std::marker::Model;
 /// and the elements that are begun and not ended, the innermost first.
 ///
 /// Each call that may want memory answers `AllocError` for nothing else, also where one of the tree's
-/// tables would pass 2^32 - 1 places: bytes of names and texts, attributes, kids or elements. After
-/// that a builder may only be dropped.
+/// tables would pass 2^32 - 1 places (bytes of names and texts, attributes, kids or elements), or the
+/// offset of an element is past 2^32 - 1. After that a builder may only be dropped.
 ///
-/// Memory is in proportion to what was given. What is filled is one byte for each byte of a name or a
-/// text, 32 for an element, 16 for an attribute and 24 for a kid, which stands twice until the element
-/// around it ends. A table has room for at most twice what fills it, and while it grows the table from
-/// before stands beside it: so the constant is 3 times these figures at most.
+/// Memory is in proportion to what was given. What is filled is one byte for each byte of a name, a
+/// value or a text, 8 for an element, 24 more for what it does not share with the element that ended
+/// before it, 16 for an attribute, and 16 for a kid, which stands twice until the element around it
+/// ends. An element shares its name's bytes where the one that ended before it has the same name, and
+/// the 24 where neither attributes nor kids stand between them either. A table has room for at most
+/// twice what fills it, and while it grows the table from before stands beside it: so the constant is 3
+/// times these figures at most.
 #[derive(Debug, Drop)]
 pub struct Builder {
     site: Site,

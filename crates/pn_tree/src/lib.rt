@@ -4,8 +4,10 @@
 mod builder;
 mod copy;
 mod element;
+mod nodes;
 mod put;
 mod site;
+mod slots;
 mod store;
 mod tables;
 mod tree;

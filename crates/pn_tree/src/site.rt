@@ -1,15 +1,17 @@
-ghost use Rattle.std.specs.Prelude.{◌≡◌, suc, ◌+◌, ◌^◌, ◌<◌, ◌≤◌, ◌++◌, ◌∷◌, [], length, true, None, Some, IfOk, OnOk, OnErr, IsSome, IfSome, MatchOption, vec_len, vec_capacity};
+ghost use Rattle.std.specs.Prelude.{◌≡◌, suc, ◌+◌, ◌^◌, ◌<◌, ◌≤◌, ◌++◌, ◌∷◌, [], length, true, None, Some, IfOk, OnOk, OnErr, IsSome, IfSome, MatchOption, vec_len};
 ghost use Rattle.pn_text.specs.Characters.{is_name, is_text};
 ghost use Rattle.pn_tree.specs.Elements.{attr_value};
 ghost use Rattle.pn_tree.specs.Building.{nothing_built, innermost, begun, at_innermost, with_attr, with_text, ended};
-ghost use Rattle.pn_tree.specs.Tables.{content, AreWithin, HaveGrown, HasGrown};
+ghost use Rattle.pn_tree.specs.Tables.{cut, content, AreWithin, HasGrown, IsTextIn, IsPut};
 ghost use Rattle.pn_tree.specs.Frames.{AreSideBySide, HasSpare, IsSite, built};
-ghost use Rattle.pn_tree.specs.Changes.{IsNewNode, HasBytes, IsEnclosed, IsPairPut, HasAttr, IsTextAdded, IsTextTaken, HasNoText, joined_span, IsTextPlaced, IsClosed};
+ghost use Rattle.pn_tree.specs.Changes.{IsNewNode, HasBytes, IsEnclosed, IsPairPut, HasAttr, IsTextAdded, joined_span, IsTextPlaced, IsClosed};
 ghost use Rattle.pn_tree.specs.declared.tables.Slot.TheVariants as slots;
 
 use crate::Tree;
+use crate::nodes::Nodes;
+use crate::slots::Slots;
 use crate::store::Store;
-use crate::tables::{Node, Pair, Slot, Span, Tables, fit, fit_both, put_text};
+use crate::tables::{Node, Pair, Slot, Span, Tables, fit, fit_both, fit_offset, put_text, text_at};
 use std::alloc::{AllocError, Global};
 
 /// A tree that is being made: its tables so far, the kids of open elements that are still to be
@@ -18,7 +20,7 @@ use std::alloc::{AllocError, Global};
 #[derive(Debug, Drop)]
 pub(crate) struct Site {
     tables: Tables,
-    pending: Vec<Slot>,
+    pending: Slots,
     outer: Vec<Node>,
     inner: Option<Node>,
     root: Option<u32>,
@@ -34,20 +36,34 @@ fn empty_at(place: usize) -> Result<Span, AllocError>
     })
 }
 
-/// An element that was given nothing yet.
-fn new_node(
-    bytes: &mut Vec<u8>,
-    name: &str,
-    at: u64,
-    attrs: usize,
-    kids: usize,
-) -> Result<Node, AllocError>
-    ensures grown { HasGrown bytes.old.items bytes.new.items }
-    ensures begun { IfOk result (IsNewNode bytes.old.items bytes.new.items name.now at attrs kids) }
+/// Where the name stands: there already where the last node has the same, or behind the bytes.
+fn put_name(tables: &mut Tables, name: &str) -> Result<Span, AllocError>
+    requires within { AreWithin (content tables.old) }
+    ensures grown { HasBytes (content tables.old) (content tables.new) }
+    ensures kids { tables.new.kids ≡ tables.old.kids }
+    ensures nodes { tables.new.nodes ≡ tables.old.nodes }
+    ensures named { IfOk result (λ s. IsTextIn tables.new.bytes.items s × (cut s tables.new.bytes.items ≡ name.now)) }
 {
+    if let Some(last) = tables.nodes.last() {
+        if text_at(tables.bytes.as_slice(), last.name) == name {
+            return Ok(last.name);
+        }
+    }
+    put_text(&mut tables.bytes, name)
+}
+
+/// An element that was given nothing yet, where there are so many kids.
+fn new_node(tables: &mut Tables, name: &str, at: u64, kids: usize) -> Result<Node, AllocError>
+    requires within { AreWithin (content tables.old) }
+    ensures grown { HasBytes (content tables.old) (content tables.new) }
+    ensures kids { tables.new.kids ≡ tables.old.kids }
+    ensures nodes { tables.new.nodes ≡ tables.old.nodes }
+    ensures begun { IfOk result (IsNewNode tables.new.bytes.items name.now at (length tables.old.attrs.items) kids) }
+{
+    let attrs = tables.attrs.len();
     Ok(Node {
-        name: put_text(bytes, name)?,
-        at,
+        name: put_name(tables, name)?,
+        at: fit_offset(at)?,
         attrs: empty_at(attrs)?,
         kids: empty_at(kids)?,
     })
@@ -56,7 +72,7 @@ fn new_node(
 /// Puts the innermost open element with those around it, so that a kid of it can be begun.
 fn enclose(
     outer: &mut Vec<Node>,
-    pending: &mut Vec<Slot>,
+    pending: &mut Slots,
     inner: Option<Node>,
 ) -> Result<(), AllocError>
     ensures { OnOk result
@@ -73,7 +89,7 @@ fn enclose(
 }
 
 /// Reserves what the ends of two elements more than those in `outer` need.
-fn make_room(tables: &mut Tables, pending: &mut Vec<Slot>, outer: usize) -> Result<(), AllocError>
+fn make_room(tables: &mut Tables, pending: &mut Slots, outer: usize) -> Result<(), AllocError>
     ensures tables { content tables.new ≡ content tables.old }
     ensures pending { pending.new.items ≡ pending.old.items }
     ensures room { OnOk result (HasSpare (outer + 2) (outer + 2) tables.new pending.new) }
@@ -112,26 +128,6 @@ fn put_attr(tables: &mut Tables, name: &str, value: &str) -> Result<u32, AllocEr
     Ok(count as u32)
 }
 
-/// Takes the text off that stands last among the kids from `start` on, if one does.
-fn take_text(pending: &mut Vec<Slot>, start: u32) -> Option<Span>
-    ensures taken { MatchOption result ((pending.new.items ≡ pending.old.items) × HasNoText start pending.old.items)
-        (IsTextTaken start pending.old.items pending.new.items) }
-    ensures len { vec_len pending.new ≤ vec_len pending.old }
-    ensures room { vec_capacity pending.new ≡ vec_capacity pending.old }
-{
-    if pending.len() <= start as usize {
-        return None;
-    }
-    match pending.as_slice().last() {
-        Some(Slot::Text(last)) => {
-            let last = *last;
-            pending.pop();
-            Some(last)
-        }
-        _ => None,
-    }
-}
-
 /// The text, from where a text before it begins.
 fn joined(last: Option<Span>, text: Span) -> Span
     ensures { result ≡ joined_span last text }
@@ -147,13 +143,14 @@ fn joined(last: Option<Span>, text: Span) -> Span
 
 /// Puts a text behind the kids from `start` on, and says how many kids there are then. A text that
 /// stands last there goes up to the new one's end, since its bytes are the last ones before it.
-fn place_text(pending: &mut Vec<Slot>, start: u32, text: Span) -> Result<u32, AllocError>
+fn place_text(pending: &mut Slots, start: u32, text: Span) -> Result<u32, AllocError>
+    requires filled { 0 < text.end }
     ensures placed { OnOk result (IsTextPlaced start text pending.old.items pending.new.items) }
     ensures count { IfOk result (λ n. n ≡ length pending.new.items) }
-    ensures len { vec_len pending.new ≤ vec_len pending.old + 1 }
-    ensures room { vec_capacity pending.old ≤ vec_capacity pending.new }
+    ensures len { OnOk result (length pending.new.items ≤ length pending.old.items + 1) }
+    ensures room { pending.old.capacity ≤ pending.new.capacity }
 {
-    let last = take_text(pending, start);
+    let last = pending.take_text(start);
     pending.push(Slot::Text(joined(last, text)))?;
     fit(pending.len())
 }
@@ -161,11 +158,12 @@ fn place_text(pending: &mut Vec<Slot>, start: u32, text: Span) -> Result<u32, Al
 /// Puts a text that is not empty behind the kids from `start` on, and says how many kids there are then.
 fn add_text(
     tables: &mut Tables,
-    pending: &mut Vec<Slot>,
+    pending: &mut Slots,
     outer: usize,
     start: u32,
     text: &str,
 ) -> Result<u32, AllocError>
+    requires some { 0 < length text.now }
     ensures grown { HasBytes (content tables.old) (content tables.new) }
     ensures added { OnOk result (IsTextAdded start (content tables.old) (content tables.new)
         pending.old.items pending.new.items text.now) }
@@ -180,62 +178,51 @@ fn add_text(
 /// Begins an element within the innermost one, with room for its end.
 fn begin_node(
     tables: &mut Tables,
-    pending: &mut Vec<Slot>,
+    pending: &mut Slots,
     outer: &mut Vec<Node>,
     inner: Option<Node>,
     name: &str,
     at: u64,
 ) -> Result<Node, AllocError>
+    requires within { AreWithin (content tables.old) }
     ensures grown { HasBytes (content tables.old) (content tables.new) }
     ensures enclosed { OnOk result
         (IsEnclosed inner outer.old.items pending.old.items outer.new.items pending.new.items) }
-    ensures begun { IfOk result (IsNewNode tables.old.bytes.items tables.new.bytes.items name.now at
+    ensures begun { IfOk result (IsNewNode tables.new.bytes.items name.now at
         (length tables.old.attrs.items) (length pending.new.items)) }
     ensures room { OnOk result (HasSpare (suc (vec_len outer.new)) (suc (vec_len outer.new)) tables.new pending.new) }
 {
     enclose(outer, pending, inner)?;
     make_room(tables, pending, outer.len())?;
-    new_node(
-        &mut tables.bytes,
-        name,
-        at,
-        tables.attrs.len(),
-        pending.len(),
-    )
+    new_node(tables, name, at, pending.len())
 }
 
 /// Moves the kids of an element into the tables, and puts its node behind the others. Takes no memory.
-fn close(tables: &mut Tables, pending: &mut Vec<Slot>, inner: Node, outer: usize) -> u32
+fn close(tables: &mut Tables, pending: &mut Slots, inner: Node, outer: usize) -> u32
     requires ordered { inner.kids.start ≤ length pending.old.items }
     requires room { HasSpare (suc outer) (suc outer) tables.old pending.old }
     ensures closed { IsClosed (content tables.old) (content tables.new) pending.old.items pending.new.items inner }
     ensures place { result ≡ length tables.old.nodes.items }
     ensures room { HasSpare outer (suc outer) tables.new pending.new }
-    ensures kid { vec_len pending.new < vec_capacity pending.new }
-    ensures fit { vec_len pending.new + 1 < 2 ^ 32 }
+    ensures kid { length pending.new.items < pending.new.capacity }
+    ensures fit { length pending.new.items + 1 < 2 ^ 32 }
 {
     let start = tables.kids.len() as u32;
     let place = tables.nodes.len() as u32;
-    let kids = &pending[inner.kids.start as usize..];
-    if tables.kids.extend_from_slice(kids).is_err() {
-        unreachable!()
-    }
+    tables.kids.take_from(pending, inner.kids.start as usize);
     let end = tables.kids.len() as u32;
     let kids = Span { start, end };
-    if tables.nodes.push(Node { kids, ..inner }).is_err() {
-        unreachable!()
-    }
-    pending.truncate(inner.kids.start as usize);
+    tables.nodes.push(Node { kids, ..inner });
     place
 }
 
 /// Puts an ended element behind the kids of the one around it. Takes no memory.
-fn with_kid(pending: &mut Vec<Slot>, around: Node, kid: u32) -> Node
-    requires room { vec_len pending.old < vec_capacity pending.old }
-    requires fit { vec_len pending.old + 1 < 2 ^ 32 }
+fn with_kid(pending: &mut Slots, around: Node, kid: u32) -> Node
+    requires room { length pending.old.items < pending.old.capacity }
+    requires fit { length pending.old.items + 1 < 2 ^ 32 }
     ensures pending { pending.new.items ≡ pending.old.items ++ (slots.Element kid ∷ []) }
-    ensures len { vec_len pending.new ≡ vec_len pending.old + 1 }
-    ensures capacity { vec_capacity pending.old ≤ vec_capacity pending.new }
+    ensures len { length pending.new.items ≡ length pending.old.items + 1 }
+    ensures capacity { pending.old.capacity ≤ pending.new.capacity }
     ensures node { result ≡ record around { kids = record { start = around.kids.start; end = length pending.new.items } } }
 {
     if pending.push(Slot::Element(kid)).is_err() {
@@ -258,10 +245,10 @@ impl Site {
             tables: Tables {
                 bytes: Vec::new(alloc),
                 attrs: Vec::new(alloc),
-                kids: Vec::new(alloc),
-                nodes: Vec::new(alloc),
+                kids: Slots::new(alloc),
+                nodes: Nodes::new(alloc),
             },
-            pending: Vec::new(alloc),
+            pending: Slots::new(alloc),
             outer: Vec::new(alloc),
             inner: None,
             root: None,

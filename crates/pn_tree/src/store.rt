@@ -39,7 +39,7 @@ impl Store {
         ensures node { result ≡ slice_index_or self.now.nodes place no_node }
         ensures within { IsNodeIn self.now result }
     {
-        self.tables.nodes[place as usize]
+        self.tables.nodes.get(place as usize)
     }
 
     pub(crate) fn pair(&self, place: usize) -> Pair
@@ -55,7 +55,7 @@ impl Store {
         ensures slot { result ≡ slice_index_or self.now.kids place result }
         ensures within { IsSlotIn self.now.bytes (length self.now.nodes) result }
     {
-        self.tables.kids[place]
+        self.tables.kids.get(place)
     }
 
     pub(crate) fn text(&self, span: Span) -> &str

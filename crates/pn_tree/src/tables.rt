@@ -1,6 +1,8 @@
 ghost use Rattle.std.specs.Prelude.{◌≡◌, ◌<◌, ◌+◌, ◌-◌, ◌≤◌, ◌^◌, length, IfOk};
 ghost use Rattle.pn_tree.specs.Tables.{cut, HasGrown, IsTextIn, IsPut};
 
+use crate::nodes::Nodes;
+use crate::slots::Slots;
 use std::alloc::AllocError;
 
 /// A part of a table: from the place `start` on, up to the place `end` and without it.
@@ -46,7 +48,7 @@ pub(crate) enum Slot {
 #[derive(Clone, Copy, Debug)]
 pub(crate) struct Node {
     pub(crate) name: Span,
-    pub(crate) at: u64,
+    pub(crate) at: u32,
     pub(crate) attrs: Span,
     pub(crate) kids: Span,
 }
@@ -57,8 +59,8 @@ pub(crate) struct Node {
 pub(crate) struct Tables {
     pub(crate) bytes: Vec<u8>,
     pub(crate) attrs: Vec<Pair>,
-    pub(crate) kids: Vec<Slot>,
-    pub(crate) nodes: Vec<Node>,
+    pub(crate) kids: Slots,
+    pub(crate) nodes: Nodes,
 }
 
 /// A length as a place in a table.
@@ -67,6 +69,16 @@ pub(crate) fn fit(len: usize) -> Result<u32, AllocError>
 {
     match u32::try_from(len) {
         Ok(place) => Ok(place),
+        Err(_) => Err(AllocError),
+    }
+}
+
+/// An offset as a node keeps it.
+pub(crate) fn fit_offset(at: u64) -> Result<u32, AllocError>
+    ensures { IfOk result (λ n. n ≡ at) }
+{
+    match u32::try_from(at) {
+        Ok(offset) => Ok(offset),
         Err(_) => Err(AllocError),
     }
 }

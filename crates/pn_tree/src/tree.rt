@@ -5,9 +5,11 @@ use std::marker::Model;
 /// An element tree (XML 1.0, 3), whose names, characters and depth are those of this project's
 /// profile. Contracts see it as its root.
 ///
-/// A tree is four flat tables: the bytes of its names and texts, its attributes, its kids and its
-/// elements. Besides the bytes an element takes 32 bytes and an attribute 16, and each kid 12; a table
-/// may have room for twice as much. Dropping a tree is one call a table.
+/// A tree is five flat tables: the bytes of its names and texts, its attributes, its kids, its
+/// elements, and what elements share. Besides the bytes an element takes 8 bytes, and 24 more where its
+/// name, its attributes or its kids are not those of the element that ended before it; an attribute
+/// takes 16, and each kid 8. A table may have room for twice as much. Dropping a tree is one call a
+/// table.
 #[derive(Debug, Drop)]
 pub struct Tree {
     store: Store,

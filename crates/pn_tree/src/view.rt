@@ -59,7 +59,7 @@ impl<'a> View<'a> {
     pub fn at(self) -> u64
         ensures { result ≡ (element_of self.entry).at }
     {
-        self.own_node().at
+        u64::from(self.own_node().at)
     }
 
     pub fn attr_count(self) -> usize
