@@ -1,0 +1,5 @@
+pub mod Numbers
+pub mod Multisets
+pub mod Halves
+pub mod Texts
+pub mod Lists

@@ -1,0 +1,9 @@
+//! What the operators of terms on numbers, multisets, texts and lists give, on plain values
+//! (ISO/IEC 15909-2). Where an operator has no value the answer is `None`.
+#![tactic(auto)]
+
+pub mod laws;
+pub mod lists;
+pub mod multisets;
+pub mod numbers;
+pub mod texts;
