@@ -26,7 +26,7 @@ size_law : (p : Page) → page_size p ≡ suc (pages_size (out-Page p).pages)
 size_law p = fold_out-Page ℕ (λ q. suc (all_sizes q.pages)) p ∙ refl
 
 -- the page with what stands in those in it
-abbrev own_layer : {A : Type 0} → (layer.Page-F (List A) → List A) → Page → layer.Page-F (List A)
+abbrev pub own_layer : {A : Type 0} → (layer.Page-F (List A) → List A) → Page → layer.Page-F (List A)
 own_layer own p = let l = out-Page p in record {
   id = l.id;
   head = l.head;
@@ -40,7 +40,7 @@ own_layer own p = let l = out-Page p in record {
   at = l.at;
 }
 
-page_law : {A : Type 0} (own : layer.Page-F (List A) → List A) (p : Page) → in_page own p ≡ own (own_layer own p) ++ flat_map (in_page own) (out-Page p).pages
+pub page_law : {A : Type 0} (own : layer.Page-F (List A) → List A) (p : Page) → in_page own p ≡ own (own_layer own p) ++ flat_map (in_page own) (out-Page p).pages
 page_law {A} own p =
     fold_out-Page (List A) (λ q. own q ++ flat_map (λ inner. inner) q.pages) p
     ∙ ap (λ xs. own (own_layer own p) ++ xs) (flat_map-map (λ inner. inner) (in_page own) (out-Page p).pages)

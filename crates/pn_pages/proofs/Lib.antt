@@ -4,4 +4,13 @@ pub mod NotingLemmas
 pub mod SettleLemmas
 pub mod HolderLemmas
 pub mod NodeLemmas
+pub mod TellingLemmas
 pub mod ArcLemmas
+pub mod LoopLemmas
+pub mod GoalLemmas
+pub mod WireLemmas
+pub mod JudgingLemmas
+pub mod ApartLemmas
+pub mod FlatLemmas
+pub mod WritableLemmas
+pub mod SpellableLemmas

@@ -2,12 +2,12 @@
 use Rattle.std.proofs.Common.{◌≡◌, ℕ, ◌≤◌, Bool, true, false, cond, List, Option, Some, None, refl, sym, ap, ◌∙◌, arith, nat_lt}
 use Rattle.pn_net.specs.Ids.{IdHolder, NamesHolder, Role, holders_of}
 use Rattle.pn_net.specs.Ids as roles
-use Rattle.pn_net.specs.Links.{IsOnSide, NamesNoNode, Side, places, transitions, side_of}
+use Rattle.pn_net.specs.Links.{IsOnSide, NamesNoNode, Side, side_of}
 use Rattle.pn_objects.specs.declared.net.Net.{Net}
 use Rattle.pn_pages.specs.declared.names.Node.{Node}
 use Rattle.pn_pages.specs.declared.names.Node.TheVariants as nodes
 use Rattle.pn_pages.specs.declared.numbered.Objects.{Objects}
-use Rattle.pn_pages.specs.Linking.{AreApart, node_side}
+use Rattle.pn_pages.specs.Linking.{AreApart, node_side, side_by}
 use Rattle.pn_pages.specs.Naming.{IsFirstHolder, FindsNode, Shows, late, rank}
 use Rattle.pn_pages.proofs.NamingLemmas.{late_most}
 
@@ -24,7 +24,7 @@ side_shown o (nodes.Place i) h shown = ap side_of shown.3
 side_shown o (nodes.Transition i) h shown = ap side_of shown.3
 side_shown o (nodes.Reference k) h shown = ap side_of shown.3 ∙ step (nat_lt k o.place_refs) shown.0.refers
   where
-    step : (b : Bool) (refers : List ℕ) → side_of (cond b (roles.place_reference refers) (roles.transition_reference refers)) ≡ Some (cond b places transitions)
+    step : (b : Bool) (refers : List ℕ) → side_of (cond b (roles.place_reference refers) (roles.transition_reference refers)) ≡ Some (side_by b)
     step true refers = refl
     step false refers = refl
 side_shown o nodes.Other h shown = ap side_of shown
@@ -36,6 +36,10 @@ module _ (n : Net) (o : Objects) (id : List ℕ) where
     has_id = first.has_id;
     is_first = λ x has same. omega (arith, first.is_first x has same, late_most h.role, late_most x.role);
   }
+
+  -- where no two elements have the same id at the same offset, the id names one alone
+  pub only_named : AreApart n → (x y : IdHolder) → NamesHolder n id x → NamesHolder n id y → x ≡ y
+  only_named apart x y one another = apart x y one.stands another.stands (one.has_id ∙ sym another.has_id) (omega (arith, one.is_first y another.stands another.has_id, another.is_first x one.stands one.has_id))
 
   -- the side that is found
   pub on_side : (node : Option Node) (side : Side) → FindsNode o (holders_of n) id node → node_side o.place_refs node ≡ Some side → IsOnSide n id side

@@ -1,7 +1,7 @@
 -- What references refer to.
 use Rattle.std.specs.Prelude.{◌≡◌, ℕ, Bool, true, false, List, [], ◌∷◌, length, map, nat_le, nat_lt, Option, None, Some, if◌then◌else◌, slice_index_or}
 use Rattle.std.specs.List.{slice_get}
-use Rattle.pn_cycles.specs.Orders.{TellsCycles}
+use Rattle.pn_cycles.specs.Orders.{ListsEachOnce, StandBehindOffCycles, TellsCycles}
 use Rattle.pn_net.specs.Ids.{IdHolder}
 use Rattle.pn_objects.specs.declared.object.Reference.{Reference}
 use Rattle.pn_pages.specs.declared.follow.Goal.{Goal}
@@ -58,8 +58,11 @@ pub record AreGoals (place_refs : ℕ) (targets : List (Option Node)) (on_cycle 
   pub size : length goals ≡ length targets
   pub each : (k : ℕ) (target : Option Node) → slice_get targets k ≡ Some target → slice_get goals k ≡ Some (settled_goal place_refs on_cycle k target goals)
 
--- the same, where those are on a cycle that lead to themselves
+-- the same, where those are on a cycle that lead to themselves, and each of the others stands behind the one that it refers to in some order
 pub record HaveGoals (place_refs : ℕ) (targets : List (Option Node)) (goals : List Goal) : Type 0 where
   pub on_cycle : List Bool
+  pub order : List ℕ
   pub tells : TellsCycles (rows_of_targets targets) on_cycle
+  pub each : ListsEachOnce (length (rows_of_targets targets)) order
+  pub behind : StandBehindOffCycles (rows_of_targets targets) order
   pub are_goals : AreGoals place_refs targets on_cycle goals

@@ -4,3 +4,5 @@ pub mod Sides
 pub mod Naming
 pub mod Following
 pub mod Linking
+pub mod Wiring
+pub mod Judging

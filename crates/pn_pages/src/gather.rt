@@ -149,7 +149,10 @@ fn add_left(
 }
 
 /// Puts items behind others, the last first.
-fn put_reversed<T: Drop>(mut items: Items<T>, onto: &mut Items<T>) -> Result<(), AllocError>
+pub(crate) fn put_reversed<T: Drop>(
+    mut items: Items<T>,
+    onto: &mut Items<T>,
+) -> Result<(), AllocError>
     ensures { OnOk result (onto.new ≡ onto.old ++ reverse items) }
 {
     move_reversed(&mut items, onto)

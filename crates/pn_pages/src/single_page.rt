@@ -146,8 +146,10 @@ fn arc_within(alloc: Global, flat: &Flat, arc: &FlatArc) -> Result<Arc, AllocErr
     ensures { IfOk result (λ named. named ≡ arc_of_flat flat.now arc.now) }
 {
     let mut named = arc.arc.copy(alloc)?;
-    let place = &flat.places.as_slice()[arc.place as usize].id;
-    let transition = &flat.transitions.as_slice()[arc.transition as usize].id;
+    let place = flat.places.as_slice()[arc.place as usize].id.as_str();
+    let transition = flat.transitions.as_slice()[arc.transition as usize]
+        .id
+        .as_str();
     name_ends(alloc, &mut named, arc.into_place, place, transition)?;
     Ok(named)
 }
@@ -157,8 +159,8 @@ pub(crate) fn name_ends(
     alloc: Global,
     arc: &mut Arc,
     into_place: bool,
-    place: &Text,
-    transition: &Text,
+    place: &str,
+    transition: &str,
 ) -> Result<(), AllocError>
     ensures { OnOk result (arc.new ≡ record arc.old {
       source = if into_place then transition.now else place.now;
@@ -175,11 +177,11 @@ pub(crate) fn name_ends(
 }
 
 /// Makes a text the same as another; where it is, nothing is copied.
-fn set_text(alloc: Global, text: &mut Text, other: &Text) -> Result<(), AllocError>
+fn set_text(alloc: Global, text: &mut Text, other: &str) -> Result<(), AllocError>
     ensures { OnOk result (text.new ≡ other.now) }
 {
-    if text.as_str() != other.as_str() {
-        *text = other.copy(alloc)?;
+    if text.as_str() != other {
+        *text = Text::from_str(alloc, other)?;
     }
     Ok(())
 }
