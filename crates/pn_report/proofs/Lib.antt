@@ -1,0 +1,4 @@
+pub mod ByteLemmas
+pub mod LineLemmas
+pub mod SummaryLemmas
+pub mod TextLemmas

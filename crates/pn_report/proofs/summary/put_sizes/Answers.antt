@@ -1,0 +1,20 @@
+use Rattle.std.proofs.Common.{◌++◌, codes}
+use Rattle.pn_outside.proofs.TakingLemmas.{puts_then, puts_stop}
+use Rattle.pn_report.specs.Lines.{count_text}
+use Rattle.pn_report.proofs.summary.put_sizes.Goals as goal
+
+pub returns-in_err-put_count-clause-puts : goal.returns-in_err-put_count-clause-puts
+returns-in_err-put_count-clause-puts g c =
+    puts_stop _ _ _ _ (count_text (codes " transitions ") c.args.transitions ++ count_text (codes " arcs ") c.args.arcs)
+    c.from_residual.result c.from_residual.ensures.0 c.in_err-put_count.ensures.puts.front
+
+pub returns-in_err-put_count-2-clause-puts : goal.returns-in_err-put_count-2-clause-puts
+returns-in_err-put_count-2-clause-puts g c =
+    let r = c.from_residual-in_err-put_count-2.result in
+    puts_then _ _ _ _ _ r c.in_ok-put_count.ensures.puts.all
+    (puts_stop _ _ _ _ (count_text (codes " arcs ") c.args.arcs) r c.from_residual-in_err-put_count-2.ensures.0 c.in_err-put_count-2.ensures.puts.front)
+
+pub returns-clause-puts : goal.returns-clause-puts
+returns-clause-puts g c =
+    let r = c.put_count-3.result in
+    puts_then _ _ _ _ _ r c.in_ok-put_count.ensures.puts.all (puts_then _ _ _ _ _ r c.in_ok-put_count-2.ensures.puts.all c.put_count-3.ensures.puts)
