@@ -1,0 +1,9 @@
+pub mod FlatLemmas
+pub mod PlainLemmas
+pub mod MarkLemmas
+pub mod LinkLemmas
+pub mod SourceLemmas
+pub mod HeldLemmas
+pub mod OnceLemmas
+pub mod SortLemmas
+pub mod NetSortLemmas

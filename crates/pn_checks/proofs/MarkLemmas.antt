@@ -1,0 +1,151 @@
+-- How the initial marking grows, place by place.
+use Rattle.std.proofs.Common.{◌≡◌, ◌<◌, ◌≤◌, ◌+◌, ◌⊎◌, inl, inr, ℕ, zero, suc, List, [], ◌∷◌, ◌++◌, length, take, Option, None, Some, IfSome, refl, sym, ap, ◌∙◌, subst, arith}
+use Rattle.std.specs.List.{slice_get}
+use Rattle.std.specs.Ordering.{match_ordering, nat_cmp, ordering_then}
+use Rattle.std.specs.declared.cmp.Ordering.{Ordering}
+use Rattle.std.specs.declared.cmp.Ordering.TheVariants.{Less, Equal, Greater}
+use Rattle.std.proofs.lemmas.Bool.Decides.{nat_tests}
+use Rattle.std.proofs.lemmas.List.{length-append, length-take-le}
+use Rattle.std.proofs.lemmas.Option.{slice_get_past, slice_get_within}
+use Rattle.pn_bag.specs.Bag.{IsBag}
+use Rattle.pn_bag.specs.Counts.{Every, IsMultiset, IsSame, count_in, count_of}
+use Rattle.pn_bag.specs.declared.TheConstants.{MAX_COUNT}
+use Rattle.pn_checks.specs.Initial.{AreMarked, IsFirstBy, IsFirstOf, IsInitial, IsMarked, SaysNothing, token}
+use Rattle.pn_checks.specs.Plain.{ArePlain, IsPlainPlace}
+use Rattle.pn_facts.proofs.Contained.{contains_at}
+use Rattle.pn_facts.proofs.Lists.{take_got}
+use Rattle.pn_net.specs.Labels.{said}
+use Rattle.pn_net.specs.Orders.{token_cmp}
+use Rattle.pn_net.specs.declared.flat.Flat.{Flat}
+use Rattle.pn_net.specs.declared.token.Token.{Token}
+use Rattle.pn_objects.specs.declared.object.Place.{Place}
+use Rattle.pn_syntax.specs.declared.term.Term.{Term}
+use Rattle.pn_values.specs.Order.{value_cmp}
+use Rattle.pn_values.specs.declared.value.Value.{Value}
+use Rattle.pn_values.specs.declared.value.Value.TheVariants as values
+
+-- a token of one place counts for the tokens of that place alone
+pub same_place : (i n : ℕ) (v w : Value) → count_in token_cmp (token i w, n) (token i v) ≡ count_in value_cmp (w, n) v
+same_place i n v w =
+    let same : nat_cmp i i ≡ Equal = grind (arith, nat_tests) in
+    ap (λ o. match_ordering (ordering_then o (value_cmp v w)) 0 n 0) same
+
+pub other_place : (i k n : ℕ) (v w : Value) → (i ≡ k → ⊥) → count_in token_cmp (token k w, n) (token i v) ≡ 0
+other_place i k n v w differ = by (nat_cmp i k) refl
+  where
+    by : (o : Ordering) → nat_cmp i k ≡ o → match_ordering (ordering_then o (value_cmp v w)) 0 n 0 ≡ 0
+    by Less is = refl
+    by Equal is = let same : i ≡ k = grind (arith, nat_tests) in absurd (differ same)
+    by Greater is = refl
+
+-- the places up to the next one, by their numbers
+three_ways : (j i : ℕ) → (j < i) ⊎ ((j ≡ i) ⊎ (i < j))
+three_ways zero zero = inr (inl refl)
+three_ways zero (suc i) = inl (omega arith)
+three_ways (suc j) zero = inr (inr (omega arith))
+three_ways (suc j) (suc i) = by (three_ways j i)
+  where
+    by : (j < i) ⊎ ((j ≡ i) ⊎ (i < j)) → (suc j < suc i) ⊎ ((suc j ≡ suc i) ⊎ (suc i < suc j))
+    by (inl less) = inl (omega (arith, less))
+    by (inr (inl same)) = inr (inl (ap suc same))
+    by (inr (inr more)) = inr (inr (omega (arith, more)))
+
+get_front : {X : Type 0} (xs ys : List X) (j : ℕ) → j < length xs → slice_get (xs ++ ys) j ≡ slice_get xs j
+get_front [] ys j small = absurd (omega (arith, small))
+get_front (x ∷ xs) ys zero small = refl
+get_front (x ∷ xs) ys (suc j) small = get_front xs ys j (omega (arith, small))
+
+get_last : {X : Type 0} (xs : List X) (x : X) (j : ℕ) → j ≡ length xs → slice_get (xs ++ x ∷ []) j ≡ Some x
+get_last [] x zero is = refl
+get_last [] x (suc j) is = absurd (omega (arith, is))
+get_last (y ∷ xs) x zero is = absurd (omega (arith, is))
+get_last (y ∷ xs) x (suc j) is = get_last xs x j (omega (arith, is))
+
+module _ (Says : Term → List (Value × ℕ) → Type 0) (old new : List (Token × ℕ)) where
+  -- a place keeps what stands on it
+  kept : (j : ℕ) (o : Option Place) → ((v : Value) → count_of token_cmp new (token j v) ≡ count_of token_cmp old (token j v)) → IsMarked Says old j o → IsMarked Says new j o
+  kept j None same is = λ v. same v ∙ is v
+  kept j (Some p) same (bag, first, stand) = (bag, first, λ v. same v ∙ stand v)
+
+  -- the next place gets what it has at first, and the others keep what stands on them
+  pub next_marked : (places : List Place) (i : ℕ) (p : Place) (bag : List (Value × ℕ)) → slice_get places i ≡ Some p → IsFirstOf Says p bag → AreMarked Says (take i places) old
+      → ((v : Value) → count_of token_cmp new (token i v) ≡ count_of token_cmp old (token i v) + count_of value_cmp bag v)
+      → ((j : ℕ) (v : Value) → (j ≡ i → ⊥) → count_of token_cmp new (token j v) ≡ count_of token_cmp old (token j v)) → AreMarked Says (take (i + 1) places) new
+  next_marked places i p bag is first marked here elsewhere j = subst (λ ps. IsMarked Says new j (slice_get ps j)) (sym (take_got places i p is)) (by (three_ways j i))
+    where
+      front : List Place
+      front = take i places
+
+      size : length front ≡ i
+      size = length-take-le i places (omega (arith, slice_get_within places i p is))
+
+      empty : (v : Value) → count_of token_cmp old (token i v) ≡ 0
+      empty v = (subst (IsMarked Says old i) (slice_get_past front i (omega (arith, size))) (marked i)) v
+
+      by : (j < i) ⊎ ((j ≡ i) ⊎ (i < j)) → IsMarked Says new j (slice_get (front ++ p ∷ []) j)
+      by (inl less) = subst (IsMarked Says new j) (sym (get_front front (p ∷ []) j (omega (arith, less, size))))
+          (kept j (slice_get front j) (λ v. elsewhere j v (λ same. omega (arith, less, same))) (marked j))
+      by (inr (inl same)) = subst (IsMarked Says new j) (sym (get_last front p j (same ∙ sym size)))
+          (bag, first, λ v. ap (λ k. count_of token_cmp new (token k v)) same ∙ here v ∙ omega (arith, empty v))
+      by (inr (inr more)) = subst (IsMarked Says new j) (sym past)
+          (λ v. elsewhere j v (λ same. omega (arith, more, same)) ∙ subst (IsMarked Says old j) (slice_get_past front j (omega (arith, more, size))) (marked j) v)
+        where
+          past : slice_get (front ++ p ∷ []) j ≡ None
+          past = slice_get_past (front ++ p ∷ []) j (omega (arith, length-append front (p ∷ []), more, size))
+
+-- no token stands on the next place yet
+pub next_empty : (Says : Term → List (Value × ℕ) → Type 0) (places : List Place) (i : ℕ) (m : List (Token × ℕ)) (v : Value) → i ≤ length places → AreMarked Says (take i places) m → count_of token_cmp m (token i v) ≡ 0
+next_empty Says places i m v within marked =
+    let size = length-take-le i places within in
+    (subst (IsMarked Says m i) (slice_get_past (take i places) i (omega (arith, size))) (marked i)) v
+
+-- ---- places that say no terms
+
+module _ (places : List Place) (i : ℕ) (p : Place) (at : slice_get places i ≡ Some p) (plain : ArePlain places) (old : List (Token × ℕ)) (marked : AreMarked SaysNothing (take i places) old) where
+  is_plain : IsPlainPlace p
+  is_plain = plain p (contains_at places i p at)
+
+  first_by : (number : Option ℕ) (bag : List (Value × ℕ)) → said p.marking ≡ number → IsFirstBy SaysNothing None number bag → IsFirstOf SaysNothing p bag
+  first_by number bag is first = subst (λ o. IsFirstBy SaysNothing o (said p.marking) bag) (sym is_plain.no_term) (subst (λ o. IsFirstBy SaysNothing None o bag) (sym is) first)
+
+  -- where a place has no number, nothing is put on it
+  pub nothing_put : said p.marking ≡ None → AreMarked SaysNothing (take (i + 1) places) old
+  nothing_put none = next_marked SaysNothing old old places i p [] at (first_by None [] none refl) marked (λ v. omega arith) (λ j v differ. refl)
+
+  pub dots_put : (n : ℕ) (new : List (Token × ℕ)) → said p.marking ≡ Some n → ((other : Token) → count_of token_cmp new other ≡ count_of token_cmp old other + count_in token_cmp (token i values.Dot, n) other)
+      → AreMarked SaysNothing (take (i + 1) places) new
+  dots_put n new is counts =
+      next_marked SaysNothing old new places i p ((values.Dot, n) ∷ []) at (first_by (Some n) ((values.Dot, n) ∷ []) is refl) marked
+      (λ v. omega (arith, counts (token i v), same_place i n v values.Dot))
+      (λ j v differ. omega (arith, counts (token j v), other_place j i n v values.Dot differ))
+
+  -- so many can be put there
+  pub room_there : (n : ℕ) → said p.marking ≡ Some n → count_of token_cmp old (token i values.Dot) + n ≤ MAX_COUNT
+  room_there n is =
+      let small : n ≤ MAX_COUNT = subst (λ o. IfSome o (λ n. n ≤ MAX_COUNT)) is is_plain.counted in
+      let within : i < length places = slice_get_within places i p at in
+      omega (arith, small, next_empty SaysNothing places i old values.Dot (omega (arith, within)) marked)
+
+-- ---- one initial marking
+
+first_once : (term : Option Term) (number : Option ℕ) (b c : List (Value × ℕ)) → IsFirstBy SaysNothing term number b → IsFirstBy SaysNothing term number c → b ≡ c
+first_once None None b c first also = first ∙ sym also
+first_once None (Some n) b c first also = first ∙ sym also
+first_once (Some e) number b c first also = absurd first
+
+marked_once : (i : ℕ) (o : Option Place) (m k : List (Token × ℕ)) (v : Value) → IsMarked SaysNothing m i o → IsMarked SaysNothing k i o → count_of token_cmp m (token i v) ≡ count_of token_cmp k (token i v)
+marked_once i None m k v is also = is v ∙ sym (also v)
+marked_once i (Some p) m k v (b, first, stand) (c, second, others) =
+    stand v ∙ ap (λ bag. count_of value_cmp bag v) (first_once (said p.hl_marking) (said p.marking) b c first second) ∙ sym (others v)
+
+counted : (entries : List (Token × ℕ)) → Every (λ e. (0 < e.1) × (e.1 ≤ MAX_COUNT)) entries → Every (λ e. 0 < e.1) entries
+counted [] all = tt
+counted (e ∷ entries) all = (all.0.0, counted entries all.1)
+
+multiset_of : (m : List (Token × ℕ)) → IsBag token_cmp m → IsMultiset token_cmp m
+multiset_of m is = record { rising = is.rising; positive = counted m is.counted }
+
+pub initial_once : ((xs ys : List (Token × ℕ)) → IsMultiset token_cmp xs → IsMultiset token_cmp ys → IsSame token_cmp xs ys → xs ≡ ys) → (f g : Flat) (m k : List (Token × ℕ)) → f.places ≡ g.places → IsInitial f m → IsInitial g k → m ≡ k
+initial_once entries f g m k same is also =
+    entries m k (multiset_of m is.bag) (multiset_of k also.bag)
+    (λ t. marked_once t.place (slice_get f.places t.place) m k t.value (is.marked t.place) (subst (λ ps. IsMarked SaysNothing k t.place (slice_get ps t.place)) (sym same) (also.marked t.place)))

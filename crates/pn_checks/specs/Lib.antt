@@ -1,0 +1,4 @@
+pub mod Linked
+pub mod Initial
+pub mod Plain
+pub mod Sorts
