@@ -5,7 +5,7 @@ use Rattle.pn_tree.specs.Canonical.{canonical_text}
 use Rattle.pn_tree.specs.Elements.{IsTree, is_element}
 use Rattle.pn_markup.specs.Document.{IsDocument, IsFront, IsBreak}
 use Rattle.pn_markup.proofs.DocumentLemmas.{canonical_spells}
-use Rattle.pn_command.specs.NetTree.{made}
+use Rattle.pn_spelling.specs.Writing.{made}
 
 -- what a front begins with is a front
 pub shorter_front : (a b : List ℕ) → IsFront (a ++ b) → IsFront a

@@ -5,6 +5,9 @@ use Rattle.pn_outside.specs.Cause.{Rose}
 use Rattle.pn_outside.specs.Taking.{Takes, TakesFront}
 use Rattle.pn_tree.specs.declared.element.Element.{Element}
 use Rattle.pn_markup.specs.Document.{IsBreak, IsDocument}
+use Rattle.pn_faults.specs.declared.fault.Fault.{Fault}
+use Rattle.pn_objects.specs.declared.net.Net.{Net}
+use Rattle.pn_spelling.specs.ReadNets.{net_of}
 use Rattle.pn_scan.specs.Reading.{IsTooLong}
 use Rattle.pn_command.specs.declared.words.Asked.{Asked}
 use Rattle.pn_command.specs.declared.status.Status.{Status}
@@ -13,14 +16,14 @@ use Rattle.pn_command.specs.declared.lines.Limit.{Limit}
 use Rattle.pn_command.specs.declared.lines.Limit.TheVariants as limits
 use Rattle.pn_command.specs.declared.lines.Refusal.{Refusal}
 use Rattle.pn_command.specs.declared.lines.Refusal.TheVariants as refusals
+use Rattle.pn_command.specs.declared.lines.Line.{Line}
 use Rattle.pn_command.specs.declared.lines.Line.TheVariants as lines
 use Rattle.pn_command.specs.declared.due.Due.{Due}
 use Rattle.pn_command.specs.declared.due.Due.TheVariants as due
 use Rattle.pn_command.specs.Words.{asked_of}
-use Rattle.pn_command.specs.Plain.{PlainNet}
-use Rattle.pn_command.specs.Links.{SpellsNet}
 use Rattle.pn_command.specs.Lines.{line_text, status_of}
-use Rattle.pn_command.specs.Outputs.{IsOver, output_of, output_text}
+use Rattle.pn_command.specs.Outputs.{HasText, IsOutput, IsOver}
+use Rattle.pn_command.specs.Verdict.{IsNotYet, IsAcceptedPlain, IsToldOf}
 
 -- how a call ends, and what it writes
 pub record Answer : Type 0 where
@@ -28,19 +31,22 @@ pub record Answer : Type 0 where
   pub out : List ℕ
   pub err : List ℕ
 
--- what is due as a status and the bytes for the two streams: a line goes to the standard error, with its status, an output to the standard output
-abbrev pub answer_of : Due → Answer
-answer_of (due.Line l) = record { status = status_of l; out = []; err = line_text l }
-answer_of (due.Output o) = record { status = status.Done; out = output_text o; err = [] }
+-- a line goes to the standard error, with its status
+abbrev pub line_answer : Line → Answer
+line_answer l = record { status = status_of l; out = []; err = line_text l }
 
-abbrev pub usage_due : Due
-usage_due = due.Line lines.Usage
+abbrev pub usage_answer : Answer
+usage_answer = line_answer lines.Usage
 
-abbrev pub limit_due : Limit → Due
-limit_due l = due.Line (lines.Limit l)
+abbrev pub limit_answer : Limit → Answer
+limit_answer l = line_answer (lines.Limit l)
 
-abbrev pub refusal_due : Refusal → Due
-refusal_due r = due.Line (lines.Refusal r)
+abbrev pub refusal_answer : Refusal → Answer
+refusal_answer r = line_answer (lines.Refusal r)
+
+-- what a command gives goes to the standard output
+abbrev pub output_answer : List ℕ → Answer
+output_answer text = record { status = status.Done; out = text; err = [] }
 
 -- the input is no document, and is not refused as too long: this is its break
 pub record BreaksAt (bytes : List ℕ) (k : ℕ) : Type 0 where
@@ -48,48 +54,63 @@ pub record BreaksAt (bytes : List ℕ) (k : ℕ) : Type 0 where
   pub no_document : (tree : Element) → IsDocument tree bytes → ⊥
   pub fits : IsTooLong bytes → ⊥
 
--- the input is a document within the limit, and spells no plain net
-pub record IsOther (bytes : List ℕ) : Type 0 where
-  pub tree : Element
+-- the input is a document of this tree, within the limit
+pub record IsInput (tree : Element) (bytes : List ℕ) : Type 0 where
+  pub within : length bytes ≤ BYTES
   pub is_document : IsDocument tree bytes
-  pub within : length bytes ≤ BYTES
-  pub no_net : (n : PlainNet) → SpellsNet n bytes → ⊥
-
--- the input is within its limit and spells this net
-pub record IsInput (n : PlainNet) (bytes : List ℕ) : Type 0 where
-  pub within : length bytes ≤ BYTES
-  pub spells : SpellsNet n bytes
 
 -- what is due for a command and a net: a line where its output is longer than it may be, else the output
-pub data IsDueForNet (asked : Asked) (n : PlainNet) (d : Due) : Type 0 where
-  output_too_long : IsOver (output_of asked n) → d ≡ limit_due limits.Output → IsDueForNet asked n d
-  given : (IsOver (output_of asked n) → ⊥) → d ≡ due.Output (output_of asked n) → IsDueForNet asked n d
+pub data IsDueForNet (asked : Asked) (n : Net) (a : Answer) : Type 0 where
+  output_too_long : (text : List ℕ) → IsOutput asked n text → IsOver asked text → a ≡ limit_answer limits.Output → IsDueForNet asked n a
+  given : (text : List ℕ) → IsOutput asked n text → (IsOver asked text → ⊥) → a ≡ output_answer text → IsDueForNet asked n a
 
--- what is due for a command and the bytes of the input, a case for each kind of input: one that is too long, no document, a document that is not read yet, a net
-pub data IsDueFor (asked : Asked) (bytes : List ℕ) (d : Due) : Type 0 where
-  input_too_long : IsTooLong bytes → d ≡ limit_due limits.Input → IsDueFor asked bytes d
-  broken : (k : ℕ) → BreaksAt bytes k → d ≡ refusal_due (refusals.Broken k) → IsDueFor asked bytes d
-  not_yet : IsOther bytes → d ≡ refusal_due refusals.NotYet → IsDueFor asked bytes d
-  for_net : (n : PlainNet) → IsInput n bytes → IsDueForNet asked n d → IsDueFor asked bytes d
+-- what is due for a command and the tree of a document: the least fault that stands in it, where one does, else what the command gives for its net. Nets of other kinds than place/transition nets are not taken yet, and of their documents only faults of shape, ids and links are told
+pub data IsDueForTree (asked : Asked) (tree : Element) (a : Answer) : Type 0 where
+  faulty : (f : Fault) → IsToldOf tree f → a ≡ refusal_answer (refusals.Fault f) → IsDueForTree asked tree a
+  not_yet : IsNotYet tree → a ≡ refusal_answer refusals.NotYet → IsDueForTree asked tree a
+  for_net : IsAcceptedPlain tree → IsDueForNet asked (net_of tree) a → IsDueForTree asked tree a
+
+-- what is due for a command and the bytes of the input, a case for each kind of input: one that is too long, no document, a document
+pub data IsDueFor (asked : Asked) (bytes : List ℕ) (a : Answer) : Type 0 where
+  input_too_long : IsTooLong bytes → a ≡ limit_answer limits.Input → IsDueFor asked bytes a
+  broken : (k : ℕ) → BreaksAt bytes k → a ≡ refusal_answer (refusals.Broken k) → IsDueFor asked bytes a
+  for_tree : (tree : Element) → IsInput tree bytes → IsDueForTree asked tree a → IsDueFor asked bytes a
 
 -- what is due for the words and the bytes: the usage line where the words ask for nothing
-abbrev pub IsDue : List (List ℕ) → List ℕ → Due → Type 0
-IsDue words bytes d = MatchOption (asked_of words) (d ≡ usage_due) (λ asked. IsDueFor asked bytes d)
+abbrev pub IsDue : List (List ℕ) → List ℕ → Answer → Type 0
+IsDue words bytes a = MatchOption (asked_of words) (a ≡ usage_answer) (λ asked. IsDueFor asked bytes a)
 
 -- this is due, and nothing else is
-pub record IsTheDue (words : List (List ℕ)) (bytes : List ℕ) (d : Due) : Type 0 where
-  pub is : IsDue words bytes d
-  pub only : (other : Due) → IsDue words bytes other → other ≡ d
+pub record IsTheDue (words : List (List ℕ)) (bytes : List ℕ) (a : Answer) : Type 0 where
+  pub is : IsDue words bytes a
+  pub only : (other : Answer) → IsDue words bytes other → other ≡ a
 
 -- one answer is due, no other is, and this holds of it
 pub record ForAnswer (words : List (List ℕ)) (bytes : List ℕ) (P : Answer → Type 0) : Type 0 where
-  pub due : Due
-  pub is : IsTheDue words bytes due
-  pub holds : P (answer_of due)
+  pub answer : Answer
+  pub is : IsTheDue words bytes answer
+  pub holds : P answer
 
 -- this holds of whatever answer is due
 abbrev pub EachAnswer : List (List ℕ) → List ℕ → (Answer → Type 0) → Type 0
-EachAnswer words bytes P = (d : Due) → IsDue words bytes d → P (answer_of d)
+EachAnswer words bytes P = (a : Answer) → IsDue words bytes a → P a
+
+-- the answer that is written for what was decided
+abbrev pub Says : Due → Answer → Type 0
+Says (due.Line l) a = a ≡ line_answer l
+Says (due.Output o) a = (text : List ℕ) × HasText o text × (a ≡ output_answer text)
+
+-- with which status that is
+abbrev pub status_of_due : Due → Status
+status_of_due (due.Line l) = status_of l
+status_of_due (due.Output o) = status.Done
+
+abbrev pub usage_due : Due
+usage_due = due.Line lines.Usage
+
+-- an answer that is written for what was decided is such
+abbrev pub SaysSuch : (Answer → Type 0) → Due → Type 0
+SaysSuch P d = (a : Answer) × Says d a × P a
 
 -- all statuses but those of a failed read or write and of want of memory
 abbrev pub IsAnswer : Status → Type 0

@@ -1,10 +1,7 @@
-pub mod Plain
-pub mod PlainTree
-pub mod Links
-pub mod NetTree
-pub mod Building
 pub mod Words
 pub mod Lines
 pub mod Outputs
+pub mod Verdict
 pub mod Answer
 pub mod Reading
+pub mod Written

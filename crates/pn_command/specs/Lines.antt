@@ -1,6 +1,7 @@
 -- The lines on the standard error, and the status with which each comes.
-use Rattle.std.specs.Prelude.{ℕ, List, ◌++◌, codes, decimal}
+use Rattle.std.specs.Prelude.{ℕ, List, ◌++◌, codes}
 use Rattle.pn_outside.specs.declared.limits.TheConstants.{BYTES}
+use Rattle.pn_report.specs.Lines.{count_text, fault_line}
 use Rattle.pn_command.specs.declared.lines.Limit.{Limit}
 use Rattle.pn_command.specs.declared.lines.Limit.TheVariants as limits
 use Rattle.pn_command.specs.declared.lines.Refusal.{Refusal}
@@ -9,10 +10,6 @@ use Rattle.pn_command.specs.declared.lines.Line.{Line}
 use Rattle.pn_command.specs.declared.lines.Line.TheVariants as lines
 use Rattle.pn_command.specs.declared.status.Status.{Status}
 use Rattle.pn_command.specs.declared.status.Status.TheVariants as status
-
--- a label and the number behind it
-abbrev pub count_text : List ℕ → ℕ → List ℕ
-count_text label n = label ++ decimal n
 
 abbrev pub usage_line : List ℕ
 usage_line = codes "pnml: usage: check, flatten, step MODE (one or more), modes T, unfold, trial N\n"
@@ -29,6 +26,7 @@ limit_line limits.Output = longer_line (codes "output")
 -- the line for an input that is refused
 abbrev pub refusal_line : Refusal → List ℕ
 refusal_line (refusals.Broken k) = count_text (codes "pnml: byte ") k ++ codes ": broken\n"
+refusal_line (refusals.Fault f) = fault_line f
 refusal_line refusals.NotYet = codes "pnml: not yet\n"
 
 abbrev pub line_text : Line → List ℕ

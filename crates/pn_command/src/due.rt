@@ -1,23 +1,25 @@
 //! The answer that is due.
 
-ghost use Rattle.std.specs.Prelude.{◌≡◌, ◌≢◌, ◌≤◌, ◌⊎◌, ℕ, List, IfOk, IfSome, Err, Ok, None, map, length, string_bytes};
+ghost use Rattle.std.specs.Prelude.{◌≡◌, ◌≢◌, ◌≤◌, ◌⊎◌, ℕ, List, IfOk, IfSome, Err, Ok, None, map, string_bytes};
 ghost use Rattle.std.specs.Io.KnownBytes.{IsAtEnd};
-ghost use Rattle.pn_markup.specs.Document.{IsDocument};
+ghost use Rattle.pn_checks.specs.Linked.{IsLinked};
+ghost use Rattle.pn_markup.specs.Offsets.{HasRisingOffsets};
+ghost use Rattle.pn_net.specs.Flattening.{IsFlattened, net_of_flat};
+ghost use Rattle.pn_objects.specs.declared.net.Net.{Net};
+ghost use Rattle.pn_tree.specs.declared.element.Element.{Element};
 ghost use Rattle.pn_outside.specs.Cause.{Rose};
-ghost use Rattle.pn_command.specs.Answer.{IsDueFor, IsDueForNet, IsTheDue, answer_of, usage_due};
-ghost use Rattle.pn_command.specs.Links.{IsPlain};
+ghost use Rattle.pn_command.specs.Answer.{IsDueFor, IsDueForNet, IsDueForTree, IsTheDue, SaysSuch, status_of_due, usage_due};
 ghost use Rattle.pn_command.specs.Reading.{IsReadToEnd, IsScanned, ReadsNoFurther, TakesBegun};
 ghost use Rattle.pn_command.specs.Words.{asked_of};
 
 use crate::Status;
 use crate::input::{Scanned, Stop, scan_all};
 use crate::lines::{Limit, Line, Refusal};
-use crate::outputs::{Output, is_over, make_output};
-use crate::plain::net::PlainNet;
-use crate::plain::read::plain_net;
+use crate::outputs::{Output, is_long, make_output};
+use crate::verdict::{Verdict, find_verdict};
 use crate::words::{Asked, asks};
+use pn_checks::Checked;
 use pn_outside::Source;
-use pn_outside::limits::BYTES;
 use pn_tree::Tree;
 use std::alloc::{AllocError, Global};
 
@@ -29,13 +31,13 @@ pub(crate) enum Due {
 }
 
 /// What a command answers for a net.
-fn net_due(alloc: Global, asked: Asked, net: &PlainNet) -> Result<Due, AllocError>
-    requires { IsPlain net.now }
-    ensures due { IfOk result (IsDueForNet asked net.now) }
-    ensures asked { IfOk result (λ d. (answer_of d).status ≢ Status.Usage) }
+fn net_due(alloc: Global, asked: Asked, checked: Checked) -> Result<Due, AllocError>
+    requires linked { (tree : Element) × IsLinked tree checked }
+    ensures due { IfOk result (λ d. (n : Net) → IsFlattened n (net_of_flat checked) → SaysSuch (IsDueForNet asked n) d) }
+    ensures asked { IfOk result (λ d. status_of_due d ≢ Status.Usage) }
 {
-    let output = make_output(alloc, asked, net)?;
-    if is_over(&output) {
+    let output = make_output(alloc, asked, checked)?;
+    if is_long(&output) {
         return Ok(Due::Line(Line::Limit(Limit::Output)));
     }
     Ok(Due::Output(output))
@@ -43,20 +45,20 @@ fn net_due(alloc: Global, asked: Asked, net: &PlainNet) -> Result<Due, AllocErro
 
 /// What is due for a command and a tree.
 fn tree_due(alloc: Global, asked: Asked, tree: &Tree) -> Result<Due, AllocError>
-    ensures due { IfOk result (λ d. (bytes : List ℕ) → IsDocument tree.now bytes → length bytes ≤ BYTES → IsDueFor asked bytes d) }
-    ensures asked { IfOk result (λ d. (answer_of d).status ≢ Status.Usage) }
+    ensures due { IfOk result (λ d. HasRisingOffsets tree.now → SaysSuch (IsDueForTree asked tree.now) d) }
+    ensures asked { IfOk result (λ d. status_of_due d ≢ Status.Usage) }
 {
-    match plain_net(alloc, tree.root())? {
-        None => Ok(Due::Line(Line::Refusal(Refusal::NotYet))),
-        Some(net) => net_due(alloc, asked, &net),
+    match find_verdict(alloc, tree)? {
+        Verdict::Accepted(checked) => net_due(alloc, asked, checked),
+        Verdict::Refused(refusal) => Ok(Due::Line(Line::Refusal(refusal))),
     }
 }
 
 /// What is due for a command and an input that was read.
 fn scanned_due(alloc: Global, asked: Asked, scanned: &Scanned) -> Result<Due, AllocError>
-    ensures due { IfOk result (λ d. (bytes : List ℕ) → IsScanned bytes scanned.now → IsDueFor asked bytes d) }
-    ensures whole { IfOk result (λ d. (answer_of d).status ≡ Status.Done → IsReadToEnd scanned.now) }
-    ensures asked { IfOk result (λ d. (answer_of d).status ≢ Status.Usage) }
+    ensures due { IfOk result (λ d. (bytes : List ℕ) → IsScanned bytes scanned.now → SaysSuch (IsDueFor asked bytes) d) }
+    ensures whole { IfOk result (λ d. status_of_due d ≡ Status.Done → IsReadToEnd scanned.now) }
+    ensures asked { IfOk result (λ d. status_of_due d ≢ Status.Usage) }
 {
     match scanned {
         Scanned::Document(tree) => tree_due(alloc, asked, tree),
@@ -67,9 +69,9 @@ fn scanned_due(alloc: Global, asked: Asked, scanned: &Scanned) -> Result<Due, Al
 
 /// What is due for a command and an input that was read, or that memory was wanted.
 fn due_or_stop(alloc: Global, asked: Asked, scanned: &Scanned) -> Result<Due, Stop>
-    ensures due { IfOk result (λ d. (bytes : List ℕ) → IsScanned bytes scanned.now → IsDueFor asked bytes d) }
-    ensures whole { IfOk result (λ d. (answer_of d).status ≡ Status.Done → IsReadToEnd scanned.now) }
-    ensures asked { IfOk result (λ d. (answer_of d).status ≢ Status.Usage) }
+    ensures due { IfOk result (λ d. (bytes : List ℕ) → IsScanned bytes scanned.now → SaysSuch (IsDueFor asked bytes) d) }
+    ensures whole { IfOk result (λ d. status_of_due d ≡ Status.Done → IsReadToEnd scanned.now) }
+    ensures asked { IfOk result (λ d. status_of_due d ≢ Status.Usage) }
     ensures no_fault { result ≢ Err Stop.Fault }
 {
     match scanned_due(alloc, asked, scanned) {
@@ -84,10 +86,10 @@ pub(crate) fn decide<S: Source>(
     words: &[String],
     source: &mut S,
 ) -> Result<Due, Stop>
-    ensures due { IfOk result (λ d. IfSome (S.left source.old) (λ b. IsTheDue (map string_bytes words.now) b d)) }
+    ensures due { IfOk result (λ d. IfSome (S.left source.old) (λ b. SaysSuch (IsTheDue (map string_bytes words.now) b) d)) }
     ensures misused { asked_of (map string_bytes words.now) ≡ None → (result ≡ Ok usage_due) × (source.new ≡ source.old) }
-    ensures asked { IfOk result (λ d. (answer_of d).status ≡ Status.Usage → asked_of (map string_bytes words.now) ≡ None) }
-    ensures ended { IfOk result (λ d. (answer_of d).status ≡ Status.Done → IsAtEnd (S.left source.new)) }
+    ensures asked { IfOk result (λ d. status_of_due d ≡ Status.Usage → asked_of (map string_bytes words.now) ≡ None) }
+    ensures ended { IfOk result (λ d. status_of_due d ≡ Status.Done → IsAtEnd (S.left source.new)) }
     ensures no_further { ReadsNoFurther (S.left source.old) (S.left source.new) }
     ensures at_fault { result ≡ Err Stop.Fault → TakesBegun (S.left source.old) (S.left source.new) }
     ensures later { S.faults source.old ≤ S.faults source.new }

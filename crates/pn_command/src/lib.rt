@@ -6,9 +6,9 @@ mod input;
 pub mod laws;
 mod lines;
 mod outputs;
-mod plain;
 mod status;
 mod top;
+mod verdict;
 mod words;
 
 pub use status::Status;

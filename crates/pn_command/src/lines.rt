@@ -5,12 +5,14 @@ ghost use Rattle.std.specs.Prelude.{◌≡◌, ◌++◌, codes, OnOk};
 ghost use Rattle.pn_outside.specs.Cause.{CountsFault, HasCause};
 ghost use Rattle.pn_outside.specs.Taking.{Puts};
 ghost use Rattle.pn_outside.specs.declared.limits.TheConstants.{BYTES};
-ghost use Rattle.pn_command.specs.Lines.{IsLine, count_text, limit_line, line_text, refusal_line, status_of};
+ghost use Rattle.pn_report.specs.Lines.{count_text};
+ghost use Rattle.pn_command.specs.Lines.{IsLine, limit_line, line_text, refusal_line, status_of};
 
 use crate::Status;
-use itoa::{Buffer, Integer};
+use pn_faults::Fault;
 use pn_outside::limits::BYTES;
 use pn_outside::{Failed, Sink, put_text};
+use pn_report::{put_count, put_fault};
 
 const USAGE: &str =
     "pnml: usage: check, flatten, step MODE (one or more), modes T, unfold, trial N\n";
@@ -29,7 +31,9 @@ pub(crate) enum Limit {
 pub(crate) enum Refusal {
     /// It is no document, with its break.
     Broken(u64),
-    /// It is a document that is not read yet.
+    /// It is a document with a fault.
+    Fault(Fault),
+    /// It is a document of a net that is not taken yet.
     NotYet,
 }
 
@@ -54,21 +58,6 @@ impl Line {
             Line::Refusal(_) => Status::Refused,
         }
     }
-}
-
-/// Puts a label and the number behind it.
-pub(crate) fn put_count<K: Sink, N: Integer>(
-    sink: &mut K,
-    label: &str,
-    number: N,
-) -> Result<(), Failed>
-    ensures puts { Puts K.taken K.number result sink.old sink.new (label.now ++ N.text number) }
-    ensures cause { HasCause (K.faults sink.old) (K.faults sink.new) result }
-    ensures counted { CountsFault (K.faults sink.old) (K.faults sink.new) result }
-{
-    put_text(sink, label)?;
-    let mut digits = Buffer::new();
-    put_text(sink, digits.format(number))
 }
 
 /// Puts the line for what is longer than it may be.
@@ -111,6 +100,7 @@ fn put_refusal<K: Sink>(sink: &mut K, refusal: &Refusal) -> Result<(), Failed>
 {
     match refusal {
         Refusal::Broken(at) => put_broken(sink, *at),
+        Refusal::Fault(fault) => put_fault(fault, sink),
         Refusal::NotYet => put_text(sink, "pnml: not yet\n"),
     }
 }

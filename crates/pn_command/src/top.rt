@@ -3,7 +3,7 @@
 ghost use Rattle.std.specs.Prelude.{◌≡◌, ◌<◌, ◌≤◌, ◌⊎◌, IfSome, OnOk, OnErr, Err, None, map, string_bytes};
 ghost use Rattle.std.specs.Io.KnownBytes.{IsAtEnd};
 ghost use Rattle.pn_outside.specs.Cause.{Rose};
-ghost use Rattle.pn_command.specs.Answer.{Answers, Begins, EachAnswer, ForAnswer, IsAnswer, RoseWhereDue, answer_of};
+ghost use Rattle.pn_command.specs.Answer.{Answer, Answers, Begins, EachAnswer, ForAnswer, IsAnswer, RoseWhereDue, Says, status_of_due};
 ghost use Rattle.pn_command.specs.Lines.{IsLine};
 ghost use Rattle.pn_command.specs.Reading.{ReadsNoFurther, TakesBegun};
 ghost use Rattle.pn_command.specs.Words.{asked_of};
@@ -29,10 +29,10 @@ fn ended(written: Result<(), Failed>, status: Status) -> Status
 
 /// Writes what is due, and says how that ended.
 fn deliver<O: Sink, E: Sink>(due: &Due, out: &mut O, err: &mut E) -> Status
-    ensures answered { IsAnswer result → Answers O.taken O.number E.taken E.number result out.old out.new err.old err.new (answer_of due.now) }
-    ensures begun { Begins O.taken O.number E.taken E.number out.old out.new err.old err.new (answer_of due.now) }
-    ensures ends { (result ≡ (answer_of due.now).status) ⊎ (result ≡ Status.WriteFault) }
-    ensures write_fault { result ≡ Status.WriteFault → RoseWhereDue (answer_of due.now).status (O.faults out.old) (O.faults out.new) (E.faults err.old) (E.faults err.new) }
+    ensures answered { (a : Answer) → Says due.now a → IsAnswer result → Answers O.taken O.number E.taken E.number result out.old out.new err.old err.new a }
+    ensures begun { (a : Answer) → Says due.now a → Begins O.taken O.number E.taken E.number out.old out.new err.old err.new a }
+    ensures ends { (result ≡ status_of_due due.now) ⊎ (result ≡ Status.WriteFault) }
+    ensures write_fault { result ≡ Status.WriteFault → RoseWhereDue (status_of_due due.now) (O.faults out.old) (O.faults out.new) (E.faults err.old) (E.faults err.new) }
     ensures done { result ≡ Status.Done → O.settled out.new × (err.new ≡ err.old) }
     ensures line { IsLine result → E.settled err.new × (out.new ≡ out.old) }
     ensures later { (O.faults out.old ≤ O.faults out.new) × (E.faults err.old ≤ E.faults err.new) }

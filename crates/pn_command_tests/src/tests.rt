@@ -137,7 +137,7 @@ fn expect(
 }
 
 /// Asserts that `check` writes this line for a document.
-fn expect_checked(
+pub(crate) fn expect_checked(
     rt: &impl Abort,
     alloc: Global,
     document: &str,
@@ -155,7 +155,7 @@ fn expect_checked(
 }
 
 /// Asserts that `flatten` writes this text for a document.
-fn expect_text(
+pub(crate) fn expect_text(
     rt: &impl Abort,
     alloc: Global,
     document: &str,
@@ -173,7 +173,7 @@ fn expect_text(
 }
 
 /// Asserts that a document is refused with this line.
-fn expect_refused(
+pub(crate) fn expect_refused(
     rt: &impl Abort,
     alloc: Global,
     document: &[u8],
@@ -214,64 +214,62 @@ fn check_sums_a_plain_net_up(rt: HostRuntime) -> Result<(), Fail> {
     Ok(())
 }
 
-/// The plain net with one part in the place of another, as a row tells.
+/// The net with one part in the place of another, as a row tells.
 fn changed(alloc: Global, row: &str) -> Result<String, Fail> {
     let (part, other) = row.split_once(" => ").ok_or("no such row")?;
     with(alloc, part, other)
 }
 
-/// That the plain net, changed as the row tells, is not yet taken.
-fn is_not_yet(rt: &impl Abort, alloc: Global, row: &str) -> Result<(), Fail> {
-    let document = changed(alloc, row)?;
-    Ok(expect_refused(rt, alloc, document.as_str().as_bytes(), NOT_YET)?)
+/// That the net, changed as the row tells, is refused with the line that the row begins with.
+fn is_refused(rt: &impl Abort, alloc: Global, row: &str) -> Result<(), Fail> {
+    let (told, change) = row.split_once(" | ").ok_or("no such row")?;
+    let document = changed(alloc, change)?;
+    let line = format!(in alloc; "pnml: byte {told}\n")?;
+    Ok(expect_refused(rt, alloc, document.as_str().as_bytes(), line.as_str())?)
 }
 
-/// That the plain net is not yet taken where it is changed, for each row.
-fn expect_not_yet(rt: &impl Abort, alloc: Global, rows: &str) -> Result<(), Fail> {
+/// That the net is refused where it is changed, for each row.
+fn expect_each_refused(rt: &impl Abort, alloc: Global, rows: &str) -> Result<(), Fail> {
     for row in rows.lines() {
-        is_not_yet(rt, alloc, row)?;
+        is_refused(rt, alloc, row)?;
     }
     Ok(())
 }
 
-/// Parts of the plain net, and other ids and ends in their place.
+/// What is told of parts of the net with other ids and ends in their place.
 const OTHER_IDS: &str = "\
-<place id=\"b\" => <place id=\"a\"
-<page id=\"g\" => <page id=\"n\"
-<arc id=\"v\" => <arc id=\"t\"
-source=\"a\" target=\"t\" => source=\"a\" target=\"b\"
-source=\"a\" target=\"t\" => source=\"c\" target=\"t\"
-source=\"a\" target=\"t\" => source=\"g\" target=\"t\"
-<transition id=\"t\" => <transition id=\"t.\"
-<net id=\"n\" => <net id=\"\"
-source=\"a\" target=\"t\" => target=\"t\" source=\"a\"
-grammar/pnml => grammar/pnml\u{20}";
+208: duplicate id: a | <place id=\"b\" => <place id=\"a\"
+126: duplicate id: n | <page id=\"g\" => <page id=\"n\"
+278: duplicate id: t | <arc id=\"v\" => <arc id=\"t\"
+243: wrong end: u | source=\"a\" target=\"t\" => source=\"a\" target=\"b\"
+243: unknown end: c | source=\"a\" target=\"t\" => source=\"c\" target=\"t\"
+243: unknown end: c | source=\"a\" target=\"t\" => target=\"d\" source=\"c\"
+243: unknown end: g | source=\"a\" target=\"t\" => source=\"g\" target=\"t\"
+244: unknown end: t | <transition id=\"t\" => <transition id=\"t.\"
+60: bad id: id | <net id=\"n\" => <net id=\"\"
+0: wrong namespace: xmlns | grammar/pnml => grammar/pnml\u{20}";
 
 #[test]
-fn other_ids_and_ends_are_not_yet(rt: HostRuntime) -> Result<(), Fail> {
-    expect_not_yet(&rt, rt.alloc(), OTHER_IDS)
+fn other_ids_and_ends_are_told(rt: HostRuntime) -> Result<(), Fail> {
+    expect_each_refused(&rt, rt.alloc(), OTHER_IDS)
 }
 
-/// Parts of the plain net, and other labels and elements in their place.
+/// What is told of parts of the net with other labels and elements in their place.
 const OTHER_LABELS: &str = "\
->3< => >03<
->3< => ><
->3< => > 3<
->3< => > <
-<text>3 =>  3<text>3
-<text>3</text> => <text>3</text><text>3</text>
-<text>3 => <text x=\"y\">3
-/><transition => />.<transition
-<page => <!-- no text -->text<page
-<place id=\"b\"/> => <place id=\"b\"><name/></place>
->3< => >9223372036854775808<
-<place id=\"b\"/><transition id=\"t\"/> => <transition id=\"t\"/><place id=\"b\"/>
-</page> => </page><page id=\"h\"></page>
-target=\"t\"/> => target=\"t\"><inscription><text>0</text></inscription></arc>";
+169: bad number: text | >3< => ><
+169: bad number: text | >3< => >three<
+169: bad number: text | >3< => >9223372036854775808<
+153: stray text: initialMarking | <text>3 =>  3<text>3
+183: repeated element: text | <text>3</text> => <text>3</text><text>3</text>
+169: unknown attribute: x | <text>3 => <text x=\"y\">3
+126: stray text: page | /><transition => />.<transition
+60: stray text: net | <page => <!-- no text -->text<page
+153: unknown element: arctype | <place id=\"a\"> => <place id=\"a\"><arctype/>
+290: bad number: text | target=\"t\"/> => target=\"t\"><inscription><text>0</text></inscription></arc>";
 
 #[test]
-fn other_labels_and_elements_are_not_yet(rt: HostRuntime) -> Result<(), Fail> {
-    expect_not_yet(&rt, rt.alloc(), OTHER_LABELS)
+fn other_labels_and_elements_are_told(rt: HostRuntime) -> Result<(), Fail> {
+    expect_each_refused(&rt, rt.alloc(), OTHER_LABELS)
 }
 
 /// What `flatten` writes for the plain net, in whatever layout it is.
@@ -475,6 +473,11 @@ const OTHER_SPELLINGS: &str = "\
 <text>3< => <text>&#51;<|\
 <text>3< => <text><![CDATA[3]]><|\
 <text>3< => <text><!-- three -->3<|\
+>3< => >03<|\
+>3< => > 3\n<|\
+source=\"a\" target=\"t\" => target=\"t\" source=\"a\"|\
+<place id=\"b\"/><transition id=\"t\"/> => <transition id=\"t\"/><place id=\"b\"/>|\
+</page> => </page><page id=\"h\"></page>|\
 id=\"b\"/> => id = 'b' ></place>|\
 <pnml  => <?xml version='1.1' standalone='yes'?><?a b?>\n<pnml\u{20}|\
 </pnml> => </pnml>\n<!-- the end -->";
@@ -484,24 +487,96 @@ fn other_spellings_are_the_same_net(rt: HostRuntime) -> Result<(), Fail> {
     expect_same_net(&rt, rt.alloc(), OTHER_SPELLINGS)
 }
 
+/// A document of a net of this kind, with this in it before its page ends.
+fn net_of(alloc: Global, kind: &str, inside: &str) -> Result<String, AllocError> {
+    format!(in alloc;
+        "<pnml xmlns=\"http://www.pnml.org/version-2009/grammar/pnml\"><net id=\"n\" type=\"http://www.pnml.org/version-2009/grammar/{kind}\">{inside}</page></net></pnml>"
+    )
+}
+
 #[test]
-fn a_name_is_not_yet(rt: HostRuntime) -> Result<(), Fail> {
-    let alloc = rt.alloc();
-    let (head, _) = TRANSFER.split_once("<place").ok_or("no place")?;
-    let mut named = String::from_str(alloc, head)?;
-    named.push_str(
-        "<place id=\"a\"><name><text>\u{E9}&#x10FFFF;</text></name></place></page></net></pnml>",
-    )?;
-    expect_refused(&rt, alloc, named.as_str().as_bytes(), NOT_YET)?;
+fn a_name_is_taken(rt: HostRuntime) -> Result<(), Fail> {
+    let inside =
+        "<page id=\"g\"><place id=\"a\"><name><text>\u{E9}&#x10FFFF;</text></name></place>";
+    let named = net_of(rt.alloc(), "ptnet", inside)?;
+    let line = "ptnet places 1 transitions 0 arcs 0 tokens 0\n";
+    expect_checked(&rt, rt.alloc(), named.as_str(), line)?;
     Ok(())
 }
 
 #[test]
-fn the_deepest_document_is_not_yet(rt: HostRuntime) -> Result<(), Fail> {
+fn the_deepest_document_has_an_unknown_element(rt: HostRuntime) -> Result<(), Fail> {
     let alloc = rt.alloc();
     let mut deep = "<a>".repeat(alloc, 256)?;
     deep.push_str("</a>".repeat(alloc, 256)?.as_str())?;
-    expect_refused(&rt, alloc, deep.as_str().as_bytes(), NOT_YET)?;
+    let line = "pnml: byte 0: unknown element: a\n";
+    expect_refused(&rt, alloc, deep.as_str().as_bytes(), line)?;
+    Ok(())
+}
+
+#[test]
+fn an_input_without_its_end_is_broken(rt: HostRuntime) -> Result<(), Fail> {
+    expect_broken(&rt, rt.alloc(), b"", 0)?;
+    expect_broken(&rt, rt.alloc(), &TRANSFER.as_bytes()[..332], 332)?;
+    Ok(())
+}
+
+/// That a net of the kind, with this in it, is refused as the row tells: kind, line, what is in it.
+fn is_refused_net(rt: &impl Abort, alloc: Global, row: &str) -> Result<(), Fail> {
+    let (kind, rest) = row.split_once(" | ").ok_or("no kind")?;
+    let (told, inside) = rest.split_once(" | ").ok_or("no line")?;
+    let document = net_of(alloc, kind, inside)?;
+    let line = format!(in alloc; "pnml: {told}\n")?;
+    Ok(expect_refused(rt, alloc, document.as_str().as_bytes(), line.as_str())?)
+}
+
+/// Nets of all kinds that are refused: where no fault of shape, ids or links stands in one that is no
+/// place/transition net, it is not taken yet, whatever sorts and terms say.
+const REFUSED: &str = "\
+ptnet | byte 201: wrong end: u | <page id=\"g\"><place id=\"a\"/><place id=\"b\"/><referencePlace id=\"r\" ref=\"b\"/><arc id=\"u\" source=\"a\" target=\"r\"/>
+ptnet | byte 139: reference cycle: r | <page id=\"g\"><referencePlace id=\"r\" ref=\"s\"/><referencePlace id=\"s\" ref=\"r\"/>
+symmetricnet | byte 146: duplicate id: g | <page id=\"g\"><transition id=\"g\"/>
+symmetricnet | byte 146: missing element: type | <page id=\"g\"><place id=\"p\"/>
+symmetricnet | not yet | <page id=\"g\">
+highlevelnet | not yet | <page id=\"g\">
+symmetricnet | not yet | <declaration><structure><declarations><namedsort id=\"p\"><productsort><usersort declaration=\"c\"/><usersort declaration=\"c\"/></productsort></namedsort><namedsort id=\"c\"><cyclicenumeration><feconstant id=\"c1\"/></cyclicenumeration></namedsort></declarations></structure></declaration><page id=\"g\">
+symmetricnet | not yet | <declaration><structure><declarations><namedsort id=\"s\"><usersort declaration=\"t\"/></namedsort><namedsort id=\"t\"><usersort declaration=\"s\"/></namedsort></declarations></structure></declaration><page id=\"g\">
+symmetricnet | not yet | <declaration><structure><declarations><namedsort id=\"f\" name=\"f\"><finiteenumeration><feconstant id=\"f1\" name=\"1\"/></finiteenumeration></namedsort><variabledecl id=\"x\" name=\"x\"><usersort declaration=\"f\"/></variabledecl></declarations></structure></declaration><page id=\"g\"><transition id=\"t\"><condition><structure><equality><subterm><successor><subterm><variable refvariable=\"x\"/></subterm></successor></subterm><subterm><variable refvariable=\"x\"/></subterm></equality></structure></condition></transition>
+symmetricnet | not yet | <page id=\"g\"><place id=\"p\"><type><structure><finiteintrange start=\"1\" end=\"1048576\"/></structure></type><hlinitialMarking><structure><all><finiteintrange start=\"1\" end=\"1048576\"/></all></structure></hlinitialMarking></place>
+symmetricnet | not yet | <page id=\"g\"><place id=\"p\"><type><structure><finiteintrange start=\"1\" end=\"1048577\"/></structure></type><hlinitialMarking><structure><all><finiteintrange start=\"1\" end=\"1048577\"/></all></structure></hlinitialMarking></place>";
+
+#[test]
+fn other_nets_are_refused(rt: HostRuntime) -> Result<(), Fail> {
+    for row in REFUSED.lines() {
+        is_refused_net(&rt, rt.alloc(), row)?;
+    }
+    Ok(())
+}
+
+/// Philosophers at a table of five, with a fork between any two.
+const PHILOSOPHERS: &str =
+    "<pnml xmlns=\"http://www.pnml.org/version-2009/grammar/pnml\"><net id=\"philosophers\" type=\"http://www.pnml.org/version-2009/grammar/symmetricnet\"><declaration><structure><declarations><namedsort id=\"P\" name=\"P\"><cyclicenumeration><feconstant id=\"c1\" name=\"c1\"/><feconstant id=\"c2\" name=\"c2\"/><feconstant id=\"c3\" name=\"c3\"/><feconstant id=\"c4\" name=\"c4\"/><feconstant id=\"c5\" name=\"c5\"/></cyclicenumeration></namedsort><variabledecl id=\"x\" name=\"x\"><usersort declaration=\"P\"/></variabledecl></declarations></structure></declaration><page id=\"page\"><place id=\"think\"><type><structure><usersort declaration=\"P\"/></structure></type><hlinitialMarking><structure><all><usersort declaration=\"P\"/></all></structure></hlinitialMarking></place><place id=\"eat\"><type><structure><usersort declaration=\"P\"/></structure></type></place><place id=\"fork\"><type><structure><usersort declaration=\"P\"/></structure></type><hlinitialMarking><structure><all><usersort declaration=\"P\"/></all></structure></hlinitialMarking></place><transition id=\"take\"/><transition id=\"release\"/><arc id=\"a1\" source=\"think\" target=\"take\"><hlinscription><structure><numberof><subterm><numberconstant value=\"1\"><positive/></numberconstant></subterm><subterm><variable refvariable=\"x\"/></subterm></numberof></structure></hlinscription></arc><arc id=\"a2\" source=\"fork\" target=\"take\"><hlinscription><structure><add><subterm><numberof><subterm><numberconstant value=\"1\"><positive/></numberconstant></subterm><subterm><variable refvariable=\"x\"/></subterm></numberof></subterm><subterm><numberof><subterm><numberconstant value=\"1\"><positive/></numberconstant></subterm><subterm><successor><subterm><variable refvariable=\"x\"/></subterm></successor></subterm></numberof></subterm></add></structure></hlinscription></arc><arc id=\"a3\" source=\"take\" target=\"eat\"><hlinscription><structure><numberof><subterm><numberconstant value=\"1\"><positive/></numberconstant></subterm><subterm><variable refvariable=\"x\"/></subterm></numberof></structure></hlinscription></arc><arc id=\"a4\" source=\"eat\" target=\"release\"><hlinscription><structure><numberof><subterm><numberconstant value=\"1\"><positive/></numberconstant></subterm><subterm><variable refvariable=\"x\"/></subterm></numberof></structure></hlinscription></arc><arc id=\"a5\" source=\"release\" target=\"think\"><hlinscription><structure><numberof><subterm><numberconstant value=\"1\"><positive/></numberconstant></subterm><subterm><variable refvariable=\"x\"/></subterm></numberof></structure></hlinscription></arc><arc id=\"a6\" source=\"release\" target=\"fork\"><hlinscription><structure><add><subterm><numberof><subterm><numberconstant value=\"1\"><positive/></numberconstant></subterm><subterm><variable refvariable=\"x\"/></subterm></numberof></subterm><subterm><numberof><subterm><numberconstant value=\"1\"><positive/></numberconstant></subterm><subterm><successor><subterm><variable refvariable=\"x\"/></subterm></successor></subterm></numberof></subterm></add></structure></hlinscription></arc></page></net></pnml>";
+
+#[test]
+fn philosophers_are_not_yet(rt: HostRuntime) -> Result<(), Fail> {
+    expect_refused(&rt, rt.alloc(), PHILOSOPHERS.as_bytes(), NOT_YET)?;
+    Ok(())
+}
+
+/// A net of two pages, with a chain of references and a part that a tool added.
+const PAGED: &str =
+    "<pnml xmlns=\"http://www.pnml.org/version-2009/grammar/pnml\" xmlns:x=\"urn:x\"><net id=\"n\" type=\"http://www.pnml.org/version-2009/grammar/ptnet\"><page id=\"g\"><page id=\"h\"><place id=\"a\"><toolspecific tool=\"d\" version=\"1\"><x:k v='1&lt;2'></x:k> </toolspecific></place></page><referencePlace id=\"r\" ref=\"s\"/><referencePlace id=\"s\" ref=\"a\"/><transition id=\"t\"/><arc id=\"u\" source=\"r\" target=\"t\"/></page></net></pnml>";
+
+/// Its flat net.
+const FLAT: &str =
+    "<?xml version=\"1.0\" encoding=\"UTF-8\"?>\n<pnml xmlns=\"http://www.pnml.org/version-2009/grammar/pnml\" xmlns:x=\"urn:x\"><net id=\"n\" type=\"http://www.pnml.org/version-2009/grammar/ptnet\"><page id=\"g\"><place id=\"a\"><toolspecific tool=\"d\" version=\"1\"><x:k v=\"1&lt;2\"/> </toolspecific></place><transition id=\"t\"/><arc id=\"u\" source=\"a\" target=\"t\"/></page></net></pnml>\n";
+
+#[test]
+fn references_are_followed_and_pages_are_joined(rt: HostRuntime) -> Result<(), Fail> {
+    let line = "ptnet places 1 transitions 1 arcs 1 tokens 0\n";
+    expect_text(&rt, rt.alloc(), PAGED, FLAT)?;
+    expect_text(&rt, rt.alloc(), FLAT, FLAT)?;
+    expect_checked(&rt, rt.alloc(), PAGED, line)?;
     Ok(())
 }
 

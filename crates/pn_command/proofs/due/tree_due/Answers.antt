@@ -1,22 +1,16 @@
-use Rattle.std.proofs.Common.{None, Some, refl, subst}
+use Rattle.std.proofs.Common.{refl, subst}
 use Rattle.std.proofs.lemmas.Result.{IfOk-weaker}
-use Rattle.pn_tree.specs.Views.{element_of}
-use Rattle.pn_command.specs.Answer.{not_yet, for_net}
-use Rattle.pn_command.specs.Links.{IsPlain}
-use Rattle.pn_command.specs.NetTree.{tree_of_net}
-use Rattle.pn_command.specs.PlainTree.{ReadsPart, bare}
-use Rattle.pn_command.proofs.AnswerLemmas.{due_for_other, input_is}
-use Rattle.pn_command.proofs.BareLemmas.{part_is}
+use Rattle.pn_spelling.specs.ReadNets.{net_of}
+use Rattle.pn_command.specs.Answer.{for_net, refusal_answer}
+use Rattle.pn_command.specs.Verdict.{IsVerdict}
+use Rattle.pn_command.proofs.AnswerLemmas.{refused_due}
 use Rattle.pn_command.proofs.due.tree_due.Goals as goal
 
-pub returns-in-None-clause-due : goal.returns-in-None-clause-due
-returns-in-None-clause-due c bytes is within =
-    not_yet
-    (due_for_other c.args.tree.now bytes
-    (subst (λ e. ReadsPart IsPlain tree_of_net (bare e) None) c.root.ensures.root (part_is IsPlain tree_of_net (bare (element_of c.root.result)) c.in_ok-plain_net.field-0 None c.in-None.is c.in_ok-plain_net.ensures)) is within) refl
+pub returns-in-Accepted-clause-due : goal.returns-in-Accepted-clause-due
+returns-in-Accepted-clause-due c =
+    let taken = subst (IsVerdict c.args.tree.now) c.in-Accepted.is c.in_ok-checked.ensures.verdict in
+    IfOk-weaker c.net_due.result _ _ (λ d due rises. let said = due (net_of c.args.tree.now) taken.linked.is_flat in (said.0, said.1, for_net taken.taken said.2)) c.net_due.ensures.due
 
-pub returns-in-Some-clause-due : goal.returns-in-Some-clause-due
-returns-in-Some-clause-due c =
-    let read = subst (λ e. ReadsPart IsPlain tree_of_net (bare e) (Some c.in-Some.net)) c.root.ensures.root
-    (part_is IsPlain tree_of_net (bare (element_of c.root.result)) c.in_ok-plain_net.field-0 (Some c.in-Some.net) c.in-Some.is c.in_ok-plain_net.ensures) in
-    IfOk-weaker c.net_due.result _ _ (λ d answers bytes is within. for_net c.in-Some.net (input_is c.args.tree.now bytes c.in-Some.net read is within) answers) c.net_due.ensures.due
+pub returns-in-Refused-clause-due : goal.returns-in-Refused-clause-due
+returns-in-Refused-clause-due c = λ rises.
+    (refusal_answer c.in-Refused.refusal, refl, refused_due c.args.asked c.args.tree.now c.in-Refused.refusal (subst (IsVerdict c.args.tree.now) c.in-Refused.is c.in_ok-checked.ensures.verdict) rises)

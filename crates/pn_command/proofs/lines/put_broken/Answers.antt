@@ -1,7 +1,7 @@
 use Rattle.std.proofs.Common.{codes}
 use Rattle.pn_outside.specs.declared.traits.Failed.{Failed}
 use Rattle.pn_outside.proofs.TakingLemmas.{puts_then, puts_stop}
-use Rattle.pn_command.specs.Lines.{count_text}
+use Rattle.pn_report.specs.Lines.{count_text}
 use Rattle.pn_command.proofs.lines.put_broken.Goals as goal
 
 pub returns-in_err-put_count-clause-puts : goal.returns-in_err-put_count-clause-puts

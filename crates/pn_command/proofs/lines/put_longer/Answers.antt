@@ -1,7 +1,7 @@
 use Rattle.std.proofs.Common.{codes}
 use Rattle.pn_outside.specs.declared.limits.TheConstants.{BYTES}
 use Rattle.pn_outside.proofs.TakingLemmas.{puts_then}
-use Rattle.pn_command.specs.Lines.{count_text}
+use Rattle.pn_report.specs.Lines.{count_text}
 use Rattle.pn_command.proofs.lines.put_longer.Goals as goal
 
 pub returns-clause-puts : goal.returns-clause-puts

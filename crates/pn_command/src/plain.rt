@@ -1,9 +1,0 @@
-//! The reader of plain nets.
-
-mod inner;
-mod labels;
-mod links;
-pub(crate) mod net;
-mod nodes;
-pub(crate) mod read;
-pub(crate) mod tree;
