@@ -1,7 +1,7 @@
 -- Bytes that stand for themselves in a context, so that many are taken at once.
-use Rattle.std.specs.Prelude.{ℕ, Bool, true, false, ◌==◌, ◌&&◌, ◌||◌, not, List, ◌++◌, nat_lt}
-use Rattle.std.specs.List.{common_prefix_len}
-use Rattle.pn_text.specs.Characters.{is_within, is_name_part}
+use Rattle.std.specs.Prelude.{◌≡◌, ℕ, Bool, true, false, ◌==◌, ◌&&◌, ◌||◌, not, List, ◌++◌, nat_lt, nat_le}
+use Rattle.std.specs.List.{list_all}
+use Rattle.pn_text.specs.Characters.{is_within, is_name_part, is_text}
 use Rattle.pn_markup.specs.Bytes.{is_space}
 use Rattle.pn_scan.specs.State.{State, in_run, in_section, in_name, in_attribute, in_value}
 use Rattle.pn_scan.specs.declared.context.Brackets.{Brackets}
@@ -32,19 +32,26 @@ is_ordinary_but mark x = is_ascii x && not (x == mark)
 abbrev pub never : ℕ → Bool
 never x = false
 
--- the same tests where such a byte may stand: not behind a bracket, a CR or what an end may begin with
+-- a byte of a character past ASCII
+abbrev pub is_high : ℕ → Bool
+is_high x = nat_le 0x80 x
+
+abbrev pub or_high : (ℕ → Bool) → ℕ → Bool
+or_high passes x = is_high x || passes x
+
+-- the same tests, with the bytes past ASCII, where such a byte may stand: not behind a bracket, a CR or what an end may begin with
 abbrev pub ordinary_text : Brackets → Bool → ℕ → Bool
-ordinary_text Zero false = is_ordinary_text
+ordinary_text Zero false = or_high is_ordinary_text
 ordinary_text Zero true = never
 ordinary_text One cr = never
 ordinary_text Two cr = never
 
 abbrev pub ordinary_value : ℕ → Bool → ℕ → Bool
-ordinary_value quote false = is_ordinary_value quote
+ordinary_value quote false = or_high (is_ordinary_value quote)
 ordinary_value quote true = never
 
 abbrev pub ordinary_but : ℕ → Bool → ℕ → Bool
-ordinary_but mark false = is_ordinary_but mark
+ordinary_but mark false = or_high (is_ordinary_but mark)
 ordinary_but mark true = never
 
 -- white space in a tag behind white space
@@ -56,17 +63,18 @@ ordinary_space false = never
 abbrev pub is_ordinary : Context → ℕ → Bool
 is_ordinary (contexts.Run brackets cr) = ordinary_text brackets cr
 is_ordinary (contexts.Section brackets cr) = ordinary_text brackets cr
-is_ordinary (contexts.Name begin) = is_ordinary_name
+is_ordinary (contexts.Name begin) = or_high is_ordinary_name
 is_ordinary (contexts.Tag spaced) = ordinary_space spaced
-is_ordinary contexts.Attribute = is_ordinary_name
+is_ordinary contexts.Attribute = or_high is_ordinary_name
 is_ordinary (contexts.Value quote cr) = ordinary_value quote cr
 is_ordinary (contexts.Comment dash) = ordinary_but 45 dash
 is_ordinary (contexts.Instruction question) = ordinary_but 63 question
 is_ordinary _ = never
 
--- how many bytes at the front of a piece are those that are due of a name
-abbrev pub due_front : List ℕ → List ℕ → ℕ
-due_front due piece = common_prefix_len (λ d x. (d == x) && is_ordinary_name x) due piece
+-- characters whole, each byte of which passes
+pub record IsSlice (passes : ℕ → Bool) (xs : List ℕ) : Type 0 where
+  pub whole : is_text xs ≡ true
+  pub ordinary : list_all passes xs ≡ true
 
 -- the state behind bytes that stand for themselves
 abbrev pub behind_ordinary : State → List ℕ → State

@@ -1,8 +1,8 @@
 //! Characters in UTF-8, byte by byte.
 
-ghost use Rattle.std.specs.Prelude.{◌≡◌, ◌∷◌, []};
+ghost use Rattle.std.specs.Prelude.{◌≡◌, ◌⊎◌, ◌≤◌, ◌∷◌, [], true, length, take};
 ghost use Rattle.std.specs.Option.{option_map};
-ghost use Rattle.pn_scan.specs.Characters.{is_further, begin_three, begin_four, is_last_pair, character_behind, open_behind};
+ghost use Rattle.pn_scan.specs.Characters.{is_further, begin_three, begin_four, is_last_pair, is_whole, character_behind, open_behind};
 ghost use Rattle.pn_scan.specs.Open.{open_bytes};
 
 /// The bytes of a character that is not whole yet, if any.
@@ -50,6 +50,37 @@ fn is_forbidden(a: u8, b: u8, c: u8) -> bool
     a == 0xEF && b == 0xBF && c > 0xBD
 }
 
+/// A character of one byte.
+fn is_one(a: u8) -> bool
+    ensures { result ≡ is_whole (a ∷ []) }
+{
+    match a {
+        9 | 10 | 13 => true,
+        _ => 0x20 <= a && a <= 0x7F,
+    }
+}
+
+/// A character of two bytes.
+fn is_two(a: u8, b: u8) -> bool
+    ensures { result ≡ is_whole (a ∷ b ∷ []) }
+{
+    0xC2 <= a && a <= 0xDF && is_further_byte(b)
+}
+
+/// A character of three bytes.
+fn is_three(a: u8, b: u8, c: u8) -> bool
+    ensures { result ≡ is_whole (a ∷ b ∷ c ∷ []) }
+{
+    begins_three(a, b) && !is_forbidden(a, b, c) && is_further_byte(c)
+}
+
+/// A character of four bytes.
+fn is_four(a: u8, b: u8, c: u8, d: u8) -> bool
+    ensures { result ≡ is_whole (a ∷ b ∷ c ∷ d ∷ []) }
+{
+    begins_four(a, b) && is_further_byte(c) && is_further_byte(d)
+}
+
 fn first(a: u8) -> Option<Open>
     ensures { option_map open_bytes result ≡ character_behind (a ∷ []) }
 {
@@ -64,7 +95,7 @@ fn first(a: u8) -> Option<Open>
 fn second(a: u8, b: u8) -> Option<Open>
     ensures { option_map open_bytes result ≡ character_behind (a ∷ b ∷ []) }
 {
-    if 0xC2 <= a && a <= 0xDF && is_further_byte(b) {
+    if is_two(a, b) {
         return Some(Open::Nothing);
     }
     if begins_three(a, b) || begins_four(a, b) {
@@ -76,7 +107,7 @@ fn second(a: u8, b: u8) -> Option<Open>
 fn third(a: u8, b: u8, c: u8) -> Option<Open>
     ensures { option_map open_bytes result ≡ character_behind (a ∷ b ∷ c ∷ []) }
 {
-    if begins_three(a, b) && !is_forbidden(a, b, c) && is_further_byte(c) {
+    if is_three(a, b, c) {
         return Some(Open::Nothing);
     }
     if begins_four(a, b) && is_further_byte(c) {
@@ -88,7 +119,7 @@ fn third(a: u8, b: u8, c: u8) -> Option<Open>
 fn fourth(a: u8, b: u8, c: u8, d: u8) -> Option<Open>
     ensures { option_map open_bytes result ≡ character_behind (a ∷ b ∷ c ∷ d ∷ []) }
 {
-    if begins_four(a, b) && is_further_byte(c) && is_further_byte(d) {
+    if is_four(a, b, c, d) {
         return Some(Open::Nothing);
     }
     None
@@ -105,5 +136,19 @@ impl Open {
             Open::Two(a, b) => third(a, b, byte),
             Open::Three(a, b, c) => fourth(a, b, c, byte),
         }
+    }
+}
+
+/// How many bytes the character at the front of a piece has; none where none stands there whole.
+pub(crate) fn character_front(piece: &[u8]) -> usize
+    ensures whole { (result ≡ 0) ⊎ (is_whole (take result piece.now) ≡ true) }
+    ensures within { result ≤ length piece.now }
+{
+    match piece {
+        [a, ..] if is_one(*a) => 1,
+        [a, b, ..] if is_two(*a, *b) => 2,
+        [a, b, c, ..] if is_three(*a, *b, *c) => 3,
+        [a, b, c, d, ..] if is_four(*a, *b, *c, *d) => 4,
+        _ => 0,
     }
 }

@@ -1,13 +1,12 @@
 //! The tree as far as it was read.
 
-ghost use Rattle.std.specs.Prelude.{◌≡◌, ◌<◌, ◌≤◌, ◌+◌, ◌-◌, true, false, [], suc, length, drop, is_some, slice_get, IfSome, OnOk};
+ghost use Rattle.std.specs.Prelude.{◌≡◌, ◌<◌, ◌≤◌, ◌+◌, ◌-◌, true, false, [], suc, length, take, drop, is_some, slice_get, IfSome, OnOk};
 ghost use Rattle.pn_text.specs.Characters.{is_name, is_text};
 ghost use Rattle.pn_tree.specs.Building.{with_attr, with_text};
 ghost use Rattle.pn_tree.specs.Elements.{attr_value};
 ghost use Rattle.pn_markup.specs.Tags.{named};
 ghost use Rattle.pn_scan.specs.State.{before, within};
 ghost use Rattle.pn_scan.specs.Nestings.{nesting_of, is_inside, levels_of, inner_of, outer_of, levels_for, outer_for, HasRoom, IsRoom, IsWhere, behind_nesting, Belongs};
-ghost use Rattle.pn_scan.specs.Ordinary.{due_front};
 
 use crate::names::{AttributeNames, Names};
 use crate::ordinary::due_front;
@@ -53,7 +52,9 @@ fn byte_at(bytes: &[u8], index: usize) -> Option<u8>
 
 /// How many bytes at the front of a piece are those that are due behind so many of a name.
 fn front_behind(name: &[u8], read: usize, piece: &[u8]) -> usize
-    ensures value { result ≡ due_front (drop read name.now) piece.now }
+    requires { is_text (drop read name.now) ≡ true }
+    ensures same { take result piece.now ≡ take result (drop read name.now) }
+    ensures whole { is_text (take result piece.now) ≡ true }
     ensures within { result ≤ length piece.now }
     ensures fits { read + result ≤ usize.MAX }
 {
@@ -171,7 +172,9 @@ impl OpenTree {
     pub(crate) fn name_front(&self, read: usize, piece: &[u8]) -> usize
         requires belongs { Belongs self.now }
         requires inside { is_inside (nesting_of self.now) ≡ true }
-        ensures value { result ≡ due_front (drop read (inner_of (nesting_of self.now)).name) piece.now }
+        requires text { is_text (drop read (inner_of (nesting_of self.now)).name) ≡ true }
+        ensures same { take result piece.now ≡ take result (drop read (inner_of (nesting_of self.now)).name) }
+        ensures whole { is_text (take result piece.now) ≡ true }
         ensures within { result ≤ length piece.now }
         ensures fits { read + result ≤ usize.MAX }
     {
