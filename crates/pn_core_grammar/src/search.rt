@@ -99,7 +99,8 @@ fn keep_first<'a>(place: &mut Option<View<'a>>, view: View<'a>)
     }
 }
 
-/// Keeps an element as it is.
+/// Keeps an element as it is. There is seldom more than one in an object or a label, so the first
+/// takes room for itself alone.
 pub(crate) fn keep_opaque(
     alloc: Global,
     opaque: &mut Items<Tree>,
@@ -107,7 +108,23 @@ pub(crate) fn keep_opaque(
 ) -> Result<(), AllocError>
     ensures { OnOk result (opaque.new ≡ opaque.old ++ element_of view.entry ∷ []) }
 {
-    opaque.push(view.copy(alloc)?)
+    let part = view.copy(alloc)?;
+    if opaque.is_empty() {
+        keep_alone(alloc, opaque, part)
+    } else {
+        opaque.push(part)
+    }
+}
+
+/// Keeps the first part.
+fn keep_alone(alloc: Global, opaque: &mut Items<Tree>, part: Tree) -> Result<(), AllocError>
+    requires { opaque.old ≡ [] }
+    ensures { OnOk result (opaque.new ≡ part ∷ []) }
+{
+    let mut parts = Vec::with_capacity(alloc, 1)?;
+    parts.push(part)?;
+    *opaque = Items::from_vec(parts);
+    Ok(())
 }
 
 /// What was found, or else this.

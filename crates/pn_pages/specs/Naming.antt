@@ -1,7 +1,8 @@
 -- What ids name, as far as they are noted.
 use Rattle.std.specs.Prelude.{◌≡◌, ◌≤◌, ◌+◌, ◌*◌, ◌&&◌, ◌||◌, ◌==◌, ℕ, suc, Bool, true, false, List, [], ◌∷◌, ◌++◌, map, Option, Some, None, if◌then◌else◌, nat_lt}
 use Rattle.std.specs.List.{Contains, flat_map, slice_get}
-use Rattle.indexmap.specs.IndexMap.{get_by_text}
+use Rattle.std.specs.Str.{bytes_eq}
+use Rattle.indexmap.specs.IndexMap.{get_by}
 use Rattle.pn_faults.specs.Standing.{IsLeastOf}
 use Rattle.pn_faults.specs.declared.fault.Fault.{Fault}
 use Rattle.pn_net.specs.Ids.{IdHolder, Role, arc_holder, declaration_holders, holder, place_holder, transition_holder, place, transition, place_reference, transition_reference, other}
@@ -18,7 +19,7 @@ use Rattle.pn_pages.specs.declared.numbered.Objects.{Objects}
 
 -- what is kept of an id, where it was noted
 abbrev pub told_by : Names → List ℕ → Option First
-told_by names id = get_by_text names.index id
+told_by names id = get_by (λ key. bytes_eq id key.now) names.index
 
 abbrev pub is_no_node : Node → Bool
 is_no_node (nodes.Place i) = false

@@ -20,7 +20,11 @@ pub(crate) struct Ends {
 }
 
 /// What the ends of each arc name.
-pub(crate) fn ends_of(alloc: Global, names: &Names, arcs: &[Arc]) -> Result<Vec<Ends>, AllocError>
+pub(crate) fn ends_of(
+    alloc: Global,
+    names: &Names<'_>,
+    arcs: &[Arc],
+) -> Result<Vec<Ends>, AllocError>
     ensures { IfOk result (λ ends. (o : Objects) (hs : List IdHolder) (least : Option Fault) → AreNamed o hs (told_by names.now) least → AllZip (AreEnds o hs) arcs.now ends.items) }
 {
     let mut ends = Vec::new(alloc);

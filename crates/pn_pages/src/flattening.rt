@@ -207,23 +207,30 @@ fn find(
     requires { least.old ≡ None }
     ensures { IfOk result (λ found. AreFoundIn objects.now (all_holders id.now at objects.now) found least.new) }
 {
-    let nodes = objects
-        .places
-        .len()
-        .saturating_add(objects.transitions.len());
-    let count = nodes.saturating_add(objects.arcs.len());
     let mut names = Names {
-        index: IndexMap::with_capacity(alloc, count)?,
+        index: IndexMap::with_capacity(alloc, id_count(objects))?,
     };
     find_by(alloc, id, at, objects, &mut names, least)
 }
 
-fn find_by(
+/// About how many elements have ids: all but the constants and elements of declarations.
+fn id_count(objects: &Objects) -> usize {
+    let places = objects.places.len();
+    places
+        .saturating_add(objects.transitions.len())
+        .saturating_add(objects.references.len())
+        .saturating_add(objects.arcs.len())
+        .saturating_add(objects.titles.len())
+        .saturating_add(objects.declarations.len())
+        .saturating_add(1)
+}
+
+fn find_by<'a>(
     alloc: Global,
-    id: &str,
+    id: &'a str,
     at: u64,
-    objects: &Objects,
-    names: &mut Names,
+    objects: &'a Objects,
+    names: &mut Names<'a>,
     least: &mut Option<Fault>,
 ) -> Result<Found, AllocError>
     requires { AreNamed objects.now [] (told_by names.old) least.old }

@@ -19,7 +19,7 @@ use std::alloc::{AllocError, Global};
 /// What each reference refers to.
 pub(crate) fn targets(
     alloc: Global,
-    names: &Names,
+    names: &Names<'_>,
     references: &[Reference],
 ) -> Result<Vec<Option<Node>>, AllocError>
     ensures { IfOk result (λ targets. (o : Objects) (hs : List IdHolder) (least : Option Fault) → AreNamed o hs (told_by names.now) least → AllZip (IsTarget o hs) references.now targets.items) }

@@ -2,7 +2,6 @@
 
 ghost use Rattle.std.specs.Prelude.{◌≡◌, ℕ, ◌++◌, ◌∷◌, [], List, OnOk, Some, Option, if◌then◌else◌};
 ghost use Rattle.std.specs.Str.{bytes_eq};
-ghost use Rattle.indexmap.specs.IndexMap.{get_by_text};
 ghost use Rattle.pn_faults.specs.declared.fault.Fault.{Fault};
 ghost use Rattle.pn_net.specs.Ids.{IdHolder};
 ghost use Rattle.pn_pages.specs.Naming.{AreNamed, FindsNode, Shows, told_by, comes_earlier, earlier, is_no_node};
@@ -29,13 +28,13 @@ pub(crate) struct First {
 }
 
 /// What each id names: the first that has it, by the offsets. Of two at one offset, which no
-/// document has, it is a node where one of them is.
+/// document has, it is a node where one of them is. The ids are borrowed.
 #[derive(Drop)]
-pub(crate) struct Names {
-    pub(crate) index: IndexMap<String, First>,
+pub(crate) struct Names<'a> {
+    pub(crate) index: IndexMap<&'a str, First>,
 }
 
-impl Names {
+impl<'a> Names<'a> {
     /// What an id names. It takes no memory.
     pub(crate) fn find(&self, id: &str) -> Option<Node>
         ensures { (o : Objects) (hs : List IdHolder) (least : Option Fault) → AreNamed o hs (told_by self.now) least → FindsNode o hs id.now result }
@@ -50,7 +49,7 @@ impl Names {
     pub(crate) fn note(
         &mut self,
         alloc: Global,
-        id: &str,
+        id: &'a str,
         at: u64,
         node: Node,
         least: &mut Option<Fault>,
@@ -60,26 +59,20 @@ impl Names {
     {
         match self.first(id) {
             Some(kept) => {
-                self.note_again(alloc, id, First { at, node }, kept)?;
+                self.note_again(id, First { at, node }, kept)?;
                 keep_least_at(least, alloc, Reason::DuplicateId, at.max(kept.at), id)
             }
-            None => self.put(alloc, id, First { at, node }),
+            None => self.put(id, First { at, node }),
         }
     }
 
     /// Keeps the earlier of the first that has an id and of one more.
-    fn note_again(
-        &mut self,
-        alloc: Global,
-        id: &str,
-        one: First,
-        kept: First,
-    ) -> Result<(), AllocError>
+    fn note_again(&mut self, id: &'a str, one: First, kept: First) -> Result<(), AllocError>
         requires { told_by self.old id.now ≡ Some kept }
         ensures { OnOk result ((q : List ℕ) → told_by self.new q ≡ (if bytes_eq id.now q then Some (earlier one kept) else told_by self.old q)) }
     {
         if is_earlier(one, kept) {
-            self.put(alloc, id, one)?;
+            self.put(id, one)?;
         }
         Ok(())
     }
@@ -92,11 +85,10 @@ impl Names {
     }
 
     /// Keeps the first that has an id.
-    fn put(&mut self, alloc: Global, id: &str, first: First) -> Result<(), AllocError>
+    fn put(&mut self, id: &'a str, first: First) -> Result<(), AllocError>
         ensures { OnOk result ((q : List ℕ) → told_by self.new q ≡ (if bytes_eq id.now q then Some first else told_by self.old q)) }
     {
-        let key = String::from_str(alloc, id)?;
-        self.index.insert(key, first)?;
+        self.index.insert(id, first)?;
         Ok(())
     }
 }

@@ -86,12 +86,12 @@ impl Held for PartElement {
 }
 
 /// Notes all that has an id in a net with this id at this offset.
-pub(crate) fn note_all(
+pub(crate) fn note_all<'a>(
     alloc: Global,
-    id: &str,
+    id: &'a str,
     at: u64,
-    objects: &Objects,
-    names: &mut Names,
+    objects: &'a Objects,
+    names: &mut Names<'a>,
     least: &mut Option<Fault>,
 ) -> Result<(), AllocError>
     ensures { OnOk result (AddsNames names.old least.old names.new least.new objects.now (all_holders id.now at objects.now)) }
@@ -103,10 +103,10 @@ pub(crate) fn note_all(
     note_others(alloc, objects.arcs.as_slice(), names, least)
 }
 
-fn note_nodes(
+fn note_nodes<'a>(
     alloc: Global,
-    objects: &Objects,
-    names: &mut Names,
+    objects: &'a Objects,
+    names: &mut Names<'a>,
     least: &mut Option<Fault>,
 ) -> Result<(), AllocError>
     ensures { OnOk result (AddsNames names.old least.old names.new least.new objects.now
@@ -117,10 +117,10 @@ fn note_nodes(
     note_references(alloc, objects.references.as_slice(), names, least)
 }
 
-fn note_places(
+fn note_places<'a>(
     alloc: Global,
-    places: &[Place],
-    names: &mut Names,
+    places: &'a [Place],
+    names: &mut Names<'a>,
     least: &mut Option<Fault>,
 ) -> Result<(), AllocError>
     ensures { OnOk result ((o : Objects) → o.places ≡ places.now → AddsNames names.old least.old names.new least.new o (map place_holder places.now)) }
@@ -132,10 +132,10 @@ fn note_places(
     Ok(())
 }
 
-fn note_transitions(
+fn note_transitions<'a>(
     alloc: Global,
-    transitions: &[Transition],
-    names: &mut Names,
+    transitions: &'a [Transition],
+    names: &mut Names<'a>,
     least: &mut Option<Fault>,
 ) -> Result<(), AllocError>
     ensures { OnOk result ((o : Objects) → o.transitions ≡ transitions.now → AddsNames names.old least.old names.new least.new o (map transition_holder transitions.now)) }
@@ -153,10 +153,10 @@ fn note_transitions(
     Ok(())
 }
 
-fn note_references(
+fn note_references<'a>(
     alloc: Global,
-    references: &[Reference],
-    names: &mut Names,
+    references: &'a [Reference],
+    names: &mut Names<'a>,
     least: &mut Option<Fault>,
 ) -> Result<(), AllocError>
     ensures { OnOk result ((o : Objects) → o.references ≡ references.now → AddsNames names.old least.old names.new least.new o (holders_from o 0 references.now)) }
@@ -174,10 +174,10 @@ fn note_references(
     Ok(())
 }
 
-fn note_declarations(
+fn note_declarations<'a>(
     alloc: Global,
-    declarations: &[Declaration],
-    names: &mut Names,
+    declarations: &'a [Declaration],
+    names: &mut Names<'a>,
     least: &mut Option<Fault>,
 ) -> Result<(), AllocError>
     ensures { OnOk result ((o : Objects) → AddsNames names.old least.old names.new least.new o (flat_map declaration_holders declarations.now)) }
@@ -189,10 +189,10 @@ fn note_declarations(
 }
 
 /// Notes a declaration, and the constants and elements in it.
-fn note_declaration(
+fn note_declaration<'a>(
     alloc: Global,
-    declaration: &Declaration,
-    names: &mut Names,
+    declaration: &'a Declaration,
+    names: &mut Names<'a>,
     least: &mut Option<Fault>,
 ) -> Result<(), AllocError>
     ensures { OnOk result ((o : Objects) → AddsNames names.old least.old names.new least.new o (declaration_holders declaration.now)) }
@@ -216,10 +216,10 @@ fn note_declaration(
 }
 
 /// Notes the constants of an enumeration.
-fn note_body(
+fn note_body<'a>(
     alloc: Global,
-    body: &SortBody,
-    names: &mut Names,
+    body: &'a SortBody,
+    names: &mut Names<'a>,
     least: &mut Option<Fault>,
 ) -> Result<(), AllocError>
     ensures { OnOk result ((o : Objects) → AddsNames names.old least.old names.new least.new o (map constant_holder (constants_of body.now))) }
@@ -232,10 +232,10 @@ fn note_body(
 }
 
 /// Notes things that are no nodes.
-fn note_others<T: Held>(
+fn note_others<'a, T: Held>(
     alloc: Global,
-    items: &[T],
-    names: &mut Names,
+    items: &'a [T],
+    names: &mut Names<'a>,
     least: &mut Option<Fault>,
 ) -> Result<(), AllocError>
     ensures { OnOk result ((o : Objects) → AddsNames names.old least.old names.new least.new o (map (λ x. holder (T.id_of x) (T.offset_of x) other) items.now)) }
@@ -247,11 +247,11 @@ fn note_others<T: Held>(
 }
 
 /// Notes something that is no node.
-fn note_other(
+fn note_other<'a>(
     alloc: Global,
-    id: &str,
+    id: &'a str,
     at: u64,
-    names: &mut Names,
+    names: &mut Names<'a>,
     least: &mut Option<Fault>,
 ) -> Result<(), AllocError>
     ensures { OnOk result ((o : Objects) → AddsNames names.old least.old names.new least.new o (holder id.now at other ∷ [])) }

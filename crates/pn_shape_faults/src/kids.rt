@@ -4,6 +4,7 @@ ghost use Rattle.std.specs.Prelude.{◌≡◌, ◌<◌, ◌≤◌, ◌+◌, ◌-
 ghost use Rattle.std.specs.List.{slice_index, slice_index_or};
 ghost use Rattle.pn_tree.specs.Views.{element_of};
 ghost use Rattle.pn_shape.specs.Faults.{told, text_fault, stray_fault, own_text, over_fault, over_reason, asks_inside, is_opaque, no_slot, missing_fault, missing_faults};
+ghost use Rattle.pn_shape.specs.Rules.{fill_name};
 ghost use Rattle.pn_shape.specs.declared.rule.Content.TheVariants.{Count};
 ghost use Rattle.pn_shape_faults.specs.Keeping.{KeepsLower, Counted};
 
@@ -144,7 +145,7 @@ pub(crate) fn count_one(counts: &mut [usize], slots: &[Slot], place: usize) -> O
 fn missing_fault(kind: Kind, slot: Slot, count: usize) -> Option<Reason>
     ensures { result ≡ missing_fault kind slot count }
 {
-    if is_open(kind, slot.fill) && count < slot.least {
+    if count < slot.least && is_open(kind, slot.fill) {
         Some(Reason::MissingElement)
     } else {
         None
@@ -166,8 +167,26 @@ pub(crate) fn ask_missing(
     ensures { OnOk result (KeepsLower least.old least.new (missing_faults kind slots.now (element_of view.entry) 0 slots.now)) }
 {
     for i in 0..slots.len() {
-        let reason = missing_fault(kind, slots[i], counts[i]);
-        keep(least, alloc, reason, view.at(), fill_word(slots[i].fill))?;
+        keep_missing(least, alloc, kind, slots[i], counts[i], view)?;
     }
     Ok(())
+}
+
+/// Keeps that too few elements stand in a place, where it is so.
+fn keep_missing(
+    least: &mut Option<Fault>,
+    alloc: Global,
+    kind: Kind,
+    slot: Slot,
+    count: usize,
+    view: View<'_>,
+) -> Result<(), AllocError>
+    ensures { OnOk result (KeepsLower least.old least.new (told (element_of view.entry).at (fill_name slot.fill) (missing_fault kind slot count))) }
+{
+    let reason = missing_fault(kind, slot, count);
+    if reason.is_some() {
+        keep(least, alloc, reason, view.at(), fill_word(slot.fill))
+    } else {
+        Ok(())
+    }
 }
