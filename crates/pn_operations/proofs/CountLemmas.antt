@@ -40,7 +40,7 @@ one_fails {X = X} f P (x ∷ xs) all h = step (f x) refl (one_fails f P xs all.1
     step true is later h = later h
     step false is later h = (x, is, all.0)
 
-at_most : (a b : ℕ) → nat_le a b ≡ true → a ≤ b
+pub at_most : (a b : ℕ) → nat_le a b ≡ true → a ≤ b
 at_most a b h = grind (arith, nat_tests)
 
 is_at_most : (a b : ℕ) → a ≤ b → nat_le a b ≡ true
@@ -131,7 +131,7 @@ same_counts one other = (
 
 -- ---- what is left
 
-lessened_keys : (P : Value → Type 0) (part whole : List (Value × ℕ)) → Every {X = Value × ℕ} (λ e. P e.0) whole → Every {X = Value × ℕ} (λ e. P e.0) (map (λ e. (e.0, e.1 - count_of value_cmp part e.0)) whole)
+pub lessened_keys : (P : Value → Type 0) (part whole : List (Value × ℕ)) → Every {X = Value × ℕ} (λ e. P e.0) whole → Every {X = Value × ℕ} (λ e. P e.0) (map (λ e. (e.0, e.1 - count_of value_cmp part e.0)) whole)
 lessened_keys P part [] all = tt
 lessened_keys P part (x ∷ xs) all = (all.0, lessened_keys P part xs all.1)
 
@@ -169,7 +169,7 @@ left_once whole part one other p q = same_entries values_total values_apart one 
 pub left_included : (whole part rest : List (Value × ℕ)) → IsLeft whole part rest → Includes value_cmp whole part
 left_included whole part rest is key = omega (arith, is.counts key)
 
-left_is : (whole part : List (Value × ℕ)) → IsBag value_cmp whole → Includes value_cmp whole part → IsLeft whole part (without_part whole part)
+pub left_is : (whole part : List (Value × ℕ)) → IsBag value_cmp whole → Includes value_cmp whole part → IsLeft whole part (without_part whole part)
 left_is whole part is includes = record {
   bag = bag-counted value_cmp (map (λ e. (e.0, e.1 - count_of value_cmp part e.0)) whole) (lessened_rising part whole is.rising) (lessened_most part whole is.counted);
   counts = λ key. omega (arith, includes key, count_of-counted value_cmp (map (λ e. (e.0, e.1 - count_of value_cmp part e.0)) whole) key, lessened_counts part whole is.rising key);

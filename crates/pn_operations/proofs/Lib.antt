@@ -1,3 +1,4 @@
+pub mod DivisionLemmas
 pub mod CountLemmas
 pub mod SumLemmas
-pub mod DivisionLemmas
+pub mod KeepLemmas

@@ -3,3 +3,5 @@ pub mod Multisets
 pub mod Halves
 pub mod Texts
 pub mod Lists
+pub mod Outcomes
+pub mod Rows

@@ -1,12 +1,12 @@
 //! Texts in UTF-8.
 
 ghost use Rattle.std.specs.Prelude.{◌≡◌, length, IfOk};
-ghost use Rattle.std.specs.Ordering.{is_lt, is_le, is_gt, is_ge};
 ghost use Rattle.pn_text.specs.Characters.{characters_of};
 ghost use Rattle.pn_operations.specs.Texts.{text_concatenation, text_length, text_cmp};
 
 use pn_text::Text;
 use std::alloc::AllocError;
+use std::cmp::Ordering;
 
 /// The greatest number of bytes of a text that `stringconcatenation` gives.
 const MOST_BYTES: usize = 16777216;
@@ -39,30 +39,9 @@ fn characters(text: &str) -> usize
     text.chars().count()
 }
 
-/// `lts`
-pub fn is_less(one: &Text, other: &Text) -> bool
-    ensures { result ≡ is_lt (text_cmp one.now other.now) }
+/// How the first compares with the second, byte by byte.
+pub fn order(one: &Text, other: &Text) -> Ordering
+    ensures { result ≡ text_cmp one.now other.now }
 {
-    one.as_str().cmp(other.as_str()).is_lt()
-}
-
-/// `leqs`
-pub fn is_at_most(one: &Text, other: &Text) -> bool
-    ensures { result ≡ is_le (text_cmp one.now other.now) }
-{
-    one.as_str().cmp(other.as_str()).is_le()
-}
-
-/// `gts`
-pub fn is_greater(one: &Text, other: &Text) -> bool
-    ensures { result ≡ is_gt (text_cmp one.now other.now) }
-{
-    one.as_str().cmp(other.as_str()).is_gt()
-}
-
-/// `geqs`
-pub fn is_at_least(one: &Text, other: &Text) -> bool
-    ensures { result ≡ is_ge (text_cmp one.now other.now) }
-{
-    one.as_str().cmp(other.as_str()).is_ge()
+    one.as_str().cmp(other.as_str())
 }
