@@ -1,0 +1,11 @@
+pub mod AssignmentLemmas
+pub mod EveryLemmas
+pub mod KeepLemmas
+pub mod KinLemmas
+pub mod LeafLemmas
+pub mod MemberLemmas
+pub mod OnceLemmas
+pub mod ReadyLemmas
+pub mod RoundLemmas
+pub mod RowLemmas
+pub mod ValueLemmas

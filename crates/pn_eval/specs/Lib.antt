@@ -1,0 +1,4 @@
+pub mod Assignments
+pub mod Outcomes
+pub mod Ready
+pub mod Values
