@@ -21,7 +21,7 @@ flat_all P Q f each [] all = tt
 flat_all P Q f each (x ∷ xs) all = both_all P (f x) (flat_map f xs) (each x all.0) (flat_all P Q f each xs all.1)
 
 -- what stands on one page alone
-one_page : {A : Type 0} (own : layer.Page-F (List A) → List A) (p : Page) → (out-Page p).pages ≡ [] → flat_map (in_page own) (p ∷ []) ≡ own (own_layer own p)
+pub one_page : {A : Type 0} (own : layer.Page-F (List A) → List A) (p : Page) → (out-Page p).pages ≡ [] → flat_map (in_page own) (p ∷ []) ≡ own (own_layer own p)
 one_page own p none = append-nil (in_page own p) ∙ page_law own p ∙ ap (λ ps. own (own_layer own p) ++ flat_map (in_page own) ps) none ∙ append-nil (own (own_layer own p))
 
 module _ (id : List ℕ) (head : Head) (ps : List Place) (ts : List Transition) (arcs : List Arc) where

@@ -1,22 +1,22 @@
 -- Which elements of a document have its ids; where offsets rise, elements at one offset are one.
-use Rattle.std.proofs.Common.{◌≡◌, ◌⊎◌, inl, inr, ℕ, ◌<◌, Bool, true, false, cond, List, [], ◌∷◌, ◌++◌, map, codes, Option, None, Some, refl, sym, ap, ◌∙◌, subst}
+use Rattle.std.proofs.Common.{◌≡◌, ℕ, Bool, true, false, cond, List, [], ◌∷◌, map, codes, Option, None, Some, refl, sym, ap, ◌∙◌, subst}
 use Rattle.std.specs.List.{AllByRecursion, Contains, flat_map}
 use Rattle.std.specs.Option.{option_map, unwrap_or}
-use Rattle.pn_facts.proofs.Contained.{contains_at, contains_first, contains_next}
+use Rattle.pn_facts.proofs.Contained.{contains_at}
 use Rattle.pn_faults.proofs.RisingLemmas.{IsWithin, itself, inside, one_place}
 use Rattle.pn_markup.specs.Offsets.{HasRisingOffsets, offsets_of}
 use Rattle.pn_names.specs.Names.{constants_of}
 use Rattle.pn_net.specs.Ids.{IdHolder, arc_holder, constant_holder, declaration_holders, element_holder, holder, holders_of, other, page_holder, place_holder, place_reference_holder, transition_holder, transition_reference_holder}
-use Rattle.pn_net.specs.Objects.{declared_by, in_pages, net_arcs, net_declarations, net_place_references, net_places, net_transition_references, net_transitions}
+use Rattle.pn_net.specs.Objects.{in_pages, net_arcs, net_declarations, net_place_references, net_places, net_transition_references, net_transitions}
 use Rattle.pn_objects.specs.declared.net.Page.TheViews.{out-roll-Page}
 use Rattle.pn_checks.proofs.FlatLemmas.{flat_all}
 use Rattle.pn_shape.proofs.WrittenLemmas.{both_all}
 use Rattle.pn_facts.proofs.Each.{each, one_of}
-use Rattle.pn_checks.proofs.SourceLemmas.{ComesFrom, all_in_pages, arcs_from, each_named, found_or, in_root, mapped_all, place_references_from, places_from, transition_references_from, transitions_from}
+use Rattle.pn_checks.proofs.SourceLemmas.{ComesFrom, IsSpelled, all_contained, all_in_pages, arcs_from, declarations_from, each_named, mapped_all, or_self_within, place_references_from, places_from, transition_references_from, transitions_from, within_kid}
 use Rattle.pn_pages.proofs.ApartLemmas.{offsets_law, rise_of}
 use Rattle.pn_spelling.specs.Parts.{attribute_of, child_elements, children_named, first_child, has_name}
 use Rattle.pn_spelling.specs.ReadDeclarations.{body_in, body_of, constant_read, declaration_read, named_read, part_read, partition_read, variable_read}
-use Rattle.pn_spelling.specs.ReadNets.{arc_read, child_or_self, declarations_label, inner_or_self, net_of, place_read, reference_read, structured, transition_read}
+use Rattle.pn_spelling.specs.ReadNets.{arc_read, child_or_self, net_of, place_read, reference_read, transition_read}
 use Rattle.pn_spelling.specs.ReadSorts.{no_sort}
 use Rattle.pn_syntax.specs.declared.declaration.Declaration.{Declaration}
 use Rattle.pn_syntax.specs.declared.declaration.SortBody.TheVariants as bodies
@@ -27,30 +27,6 @@ use Rattle.pn_tree.specs.declared.element.Element.{Element}
 -- elements at one offset are one
 pub one_element : (tree : Element) → HasRisingOffsets tree → (x y : Element) → IsWithin child_elements tree x → IsWithin child_elements tree y → x.at ≡ y.at → x ≡ y
 one_element tree rises x y here there same = one_place (λ (e : Element). e.at) child_elements offsets_of offsets_law tree x y (rise_of (offsets_of tree) rises) here there same
-
--- ---- elements within
-
-within_kid : (e y z : Element) → IsWithin child_elements e y → Contains (child_elements y) z → IsWithin child_elements e z
-within_kid e y z (itself _ _ same) there = inside e z z (subst (λ x. Contains (child_elements x) z) same there) (itself z z refl)
-within_kid e y z (inside _ _ p c rest) there = inside e z p c (within_kid p y z rest there)
-
-all_contained : {X : Type 0} (P : X → Type 0) (xs : List X) → ((x : X) → Contains xs x → P x) → AllByRecursion P xs
-all_contained P [] each = tt
-all_contained P (x ∷ xs) each = (each x (contains_first x xs), all_contained P xs (λ y there. each y (contains_next x xs y there)))
-
-inner_within : (e y : Element) → IsWithin child_elements e y → IsWithin child_elements e (inner_or_self y)
-inner_within e y within = by (first_child y) refl
-  where
-    by : (o : Option Element) → first_child y ≡ o → IsWithin child_elements e (unwrap_or o y)
-    by None is = within
-    by (Some z) is = within_kid e y z within (contains_at (child_elements y) 0 z is)
-
-or_self_within : (name : List ℕ) (e y : Element) → IsWithin child_elements e y → IsWithin child_elements e (child_or_self name y)
-or_self_within name e y within = by (found_or (has_name name) (child_elements y) y)
-  where
-    by : (child_or_self name y ≡ y) ⊎ Contains (child_elements y) (child_or_self name y) → IsWithin child_elements e (child_or_self name y)
-    by (inl same) = subst (IsWithin child_elements e) (sym same) within
-    by (inr there) = within_kid e y (child_or_self name y) within there
 
 -- ---- which element has an id
 
@@ -63,13 +39,9 @@ record HasHolder (e : Element) (h : IdHolder) : Type 0 where
 held_up : (e k : Element) → Contains (child_elements e) k → (h : IdHolder) → HasHolder k h → HasHolder e h
 held_up e k there h held = record { element = held.element; within = inside e held.element k there held.within; at = held.at; id = held.id }
 
--- the declarations in an element
+-- all that a declaration has
 HasHolders : Element → Declaration → Type 0
 HasHolders e d = AllByRecursion (HasHolder e) (declaration_holders d)
-
-declared_up : (e k : Element) → Contains (child_elements e) k → (d : Declaration) → HasHolders k d → HasHolders e d
-unfolding HasHolders
-declared_up e k there d held = each (HasHolder k) (HasHolder e) (held_up e k there) (declaration_holders d) held
 
 module _ (e : Element) where
   constants_held : (y : Element) → IsWithin child_elements e y → AllByRecursion (HasHolder e) (map constant_holder (map constant_read (child_elements y)))
@@ -111,20 +83,6 @@ module _ (e : Element) where
       by false true = (own_held x within, parts_held x within)
       by false false = (own_held x within, both_all (HasHolder e) (map constant_holder (constants_of (body_in x))) [] (named_held x within) tt)
 
-  -- the declarations that stand in a kid
-  label_held : (k : Element) → Contains (child_elements e) k → AllByRecursion (HasHolders e) (declarations_label k).value
-  label_held k there =
-      let inner = structured k in
-      let within = inner_within e (child_or_self (codes "structure") k) (or_self_within (codes "structure") e k (inside e k k there (itself k k refl))) in
-      mapped_all (HasHolders e) declaration_read (child_elements inner)
-      (all_contained (λ x. HasHolders e (declaration_read x)) (child_elements inner) (λ x c. declaration_held x (within_kid e inner x within c)))
-
-  labels_held : AllByRecursion (HasHolders e) (declared_by (map declarations_label (children_named (codes "declaration") e)))
-  labels_held =
-      flat_all (HasHolders e) (λ l. AllByRecursion (HasHolders e) l.value) (λ l. l.value) (λ l all. all) (map declarations_label (children_named (codes "declaration") e))
-      (mapped_all (λ l. AllByRecursion (HasHolders e) l.value) declarations_label (children_named (codes "declaration") e)
-      (each_named (λ k. AllByRecursion (HasHolders e) (declarations_label k).value) (codes "declaration") e (λ k there named. label_held k there)))
-
 -- ---- all that has an id
 
 objects_held : {A : Type 0} (name : List ℕ) (read : Element → A) (hold : A → IdHolder) → ((x : Element) → (hold (read x)).at ≡ x.at) → ((x : Element) → (hold (read x)).id ≡ attribute_of (codes "id") x) → (e : Element) (xs : List A)
@@ -140,11 +98,8 @@ module _ (root : Element) where
 
   net_declared : AllByRecursion (HasHolders root) (net_declarations (net_of root))
   net_declared =
-      let net = child_or_self (codes "net") root in
-      both_all (HasHolders root) (declared_by (net_of root).declarations) (in_pages (λ p. declared_by p.declarations) (net_of root))
-      (in_root HasHolders declared_up root (declared_by (net_of root).declarations) (labels_held net))
-      (all_in_pages HasHolders declared_up (λ p. declared_by p.declarations)
-      (λ pages e. subst (AllByRecursion (HasHolders e)) (sym (ap (λ l. declared_by l.declarations) (out-roll-Page _))) (labels_held e)) root)
+      each (IsSpelled declaration_read root) (HasHolders root) (λ d from. subst (HasHolders root) (sym from.is) (declaration_held root from.source from.within))
+      (net_declarations (net_of root)) (declarations_from root)
 
   declared_held : AllByRecursion (HasHolder root) (flat_map declaration_holders (net_declarations (net_of root)))
   unfolding HasHolders

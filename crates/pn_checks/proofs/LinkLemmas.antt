@@ -10,6 +10,7 @@ use Rattle.pn_faults.specs.declared.fault.Fault.{Fault}
 use Rattle.pn_faults.proofs.LeastLemmas.{first-from_least_fault, not_before_itself, not_behind}
 use Rattle.pn_faults.specs.declared.fault.Refusal.{Refusal}
 use Rattle.pn_checks.specs.Linked.{IsLeastInTree, IsLinked}
+use Rattle.pn_checks.specs.Verdicts.{IsFaultOf, in_tree, no_value}
 use Rattle.pn_net.specs.Documents.{HasNoShapeFault, HasSoundLinks, StandsInTree, links, shape, sorts, typing}
 use Rattle.pn_net.specs.Flattening.{IsFlattened, net_of_flat}
 use Rattle.pn_net.specs.Links.{StandsInLinks}
@@ -49,13 +50,17 @@ module _ (tree : Element) where
   shape_told f is =
       let l = first-from_least_fault (shape_faults tree) f is in
       let has = stands_there (shape_faults tree) f l in
-      record { least = (shape f has, before l has); of_shape = subst (λ o. IfSome o (λ g. f ≡ g)) (sym is) refl }
+      record { least = (in_tree f (shape f has), before l has); of_shape = subst (λ o. IfSome o (λ g. f ≡ g)) (sym is) refl }
     where
-      before : IsLeast (shape_faults tree) f → Contains (shape_faults tree) f → (g : Fault) → StandsInTree tree g → comes_before g f ≡ false
-      before l has g (shape _ there) = none_before (shape_faults tree) f l g there
-      before l has g (links _ clean there) = absurd (not_clean f has clean)
-      before l has g (sorts _ _ linked there told) = absurd (not_clean f has linked.spells)
-      before l has g (typing _ sound there) = absurd (not_clean f has sound.linked.spells)
+      among : IsLeast (shape_faults tree) f → Contains (shape_faults tree) f → (g : Fault) → StandsInTree tree g → comes_before g f ≡ false
+      among l has g (shape _ there) = none_before (shape_faults tree) f l g there
+      among l has g (links _ clean there) = absurd (not_clean f has clean)
+      among l has g (sorts _ _ linked there told) = absurd (not_clean f has linked.spells)
+      among l has g (typing _ sound there) = absurd (not_clean f has sound.linked.spells)
+
+      before : IsLeast (shape_faults tree) f → Contains (shape_faults tree) f → (g : Fault) → IsFaultOf tree g → comes_before g f ≡ false
+      before l has g (in_tree _ there) = among l has g there
+      before l has g (no_value _ sound there) = absurd (not_clean f has sound.linked.spells)
 
   -- which the tree then has
   pub shape_unsound : (f : Fault) → least_fault (shape_faults tree) ≡ Some f → HasSoundLinks tree → ⊥
@@ -63,13 +68,17 @@ module _ (tree : Element) where
 
   -- a fault of ids and links
   pub link_told : (f : Fault) → HasNoShapeFault tree → IsLeastOf (StandsInLinks (net_of tree)) (Some f) → IsLeastInTree tree f
-  link_told f clean least = record { least = (links f clean least.0, before); of_shape = subst (λ fs. IfSome (least_fault fs) (λ g. f ≡ g)) (sym clean) tt }
+  link_told f clean least = record { least = (in_tree f (links f clean least.0), before); of_shape = subst (λ fs. IfSome (least_fault fs) (λ g. f ≡ g)) (sym clean) tt }
     where
-      before : (g : Fault) → StandsInTree tree g → comes_before g f ≡ false
-      before g (shape _ there) = absurd (not_clean g there clean)
-      before g (links _ also there) = least.1 g there
-      before g (sorts _ _ linked there told) = absurd (linked.links f least.0)
-      before g (typing _ sound there) = absurd (sound.linked.links f least.0)
+      among : (g : Fault) → StandsInTree tree g → comes_before g f ≡ false
+      among g (shape _ there) = absurd (not_clean g there clean)
+      among g (links _ also there) = least.1 g there
+      among g (sorts _ _ linked there told) = absurd (linked.links f least.0)
+      among g (typing _ sound there) = absurd (sound.linked.links f least.0)
+
+      before : (g : Fault) → IsFaultOf tree g → comes_before g f ≡ false
+      before g (in_tree _ there) = among g there
+      before g (no_value _ sound there) = absurd (sound.linked.links f least.0)
 
   -- what flattening answers
 

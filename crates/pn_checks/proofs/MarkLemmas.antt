@@ -11,6 +11,11 @@ use Rattle.pn_bag.specs.Bag.{IsBag}
 use Rattle.pn_bag.specs.Counts.{Every, IsMultiset, IsSame, count_in, count_of}
 use Rattle.pn_bag.specs.declared.TheConstants.{MAX_COUNT}
 use Rattle.pn_checks.specs.Initial.{AreMarked, IsFirstBy, IsFirstOf, IsInitial, IsMarked, SaysNothing, token}
+use Rattle.pn_checks.specs.NoValue.{SaysMultiset}
+use Rattle.pn_checks.specs.NoValue.{multiset_of as said_by}
+use Rattle.pn_eval.specs.Values.{HasValue}
+use Rattle.pn_operations.specs.declared.outcome.Outcome.{Outcome}
+use Rattle.pn_syntax.specs.declared.declaration.Declaration.{Declaration}
 use Rattle.pn_checks.specs.Plain.{ArePlain, IsPlainPlace}
 use Rattle.pn_facts.proofs.Contained.{contains_at}
 use Rattle.pn_facts.proofs.Lists.{take_got}
@@ -61,17 +66,17 @@ get_last [] x (suc j) is = absurd (omega (arith, is))
 get_last (y ∷ xs) x zero is = absurd (omega (arith, is))
 get_last (y ∷ xs) x (suc j) is = get_last xs x j (omega (arith, is))
 
-module _ (Says : Term → List (Value × ℕ) → Type 0) (old new : List (Token × ℕ)) where
+module _ (SaysMultiset : Term → List (Value × ℕ) → Type 0) (old new : List (Token × ℕ)) where
   -- a place keeps what stands on it
-  kept : (j : ℕ) (o : Option Place) → ((v : Value) → count_of token_cmp new (token j v) ≡ count_of token_cmp old (token j v)) → IsMarked Says old j o → IsMarked Says new j o
+  kept : (j : ℕ) (o : Option Place) → ((v : Value) → count_of token_cmp new (token j v) ≡ count_of token_cmp old (token j v)) → IsMarked SaysMultiset old j o → IsMarked SaysMultiset new j o
   kept j None same is = λ v. same v ∙ is v
   kept j (Some p) same (bag, first, stand) = (bag, first, λ v. same v ∙ stand v)
 
   -- the next place gets what it has at first, and the others keep what stands on them
-  pub next_marked : (places : List Place) (i : ℕ) (p : Place) (bag : List (Value × ℕ)) → slice_get places i ≡ Some p → IsFirstOf Says p bag → AreMarked Says (take i places) old
+  pub next_marked : (places : List Place) (i : ℕ) (p : Place) (bag : List (Value × ℕ)) → slice_get places i ≡ Some p → IsFirstOf SaysMultiset p bag → AreMarked SaysMultiset (take i places) old
       → ((v : Value) → count_of token_cmp new (token i v) ≡ count_of token_cmp old (token i v) + count_of value_cmp bag v)
-      → ((j : ℕ) (v : Value) → (j ≡ i → ⊥) → count_of token_cmp new (token j v) ≡ count_of token_cmp old (token j v)) → AreMarked Says (take (i + 1) places) new
-  next_marked places i p bag is first marked here elsewhere j = subst (λ ps. IsMarked Says new j (slice_get ps j)) (sym (take_got places i p is)) (by (three_ways j i))
+      → ((j : ℕ) (v : Value) → (j ≡ i → ⊥) → count_of token_cmp new (token j v) ≡ count_of token_cmp old (token j v)) → AreMarked SaysMultiset (take (i + 1) places) new
+  next_marked places i p bag is first marked here elsewhere j = subst (λ ps. IsMarked SaysMultiset new j (slice_get ps j)) (sym (take_got places i p is)) (by (three_ways j i))
     where
       front : List Place
       front = take i places
@@ -80,24 +85,24 @@ module _ (Says : Term → List (Value × ℕ) → Type 0) (old new : List (Token
       size = length-take-le i places (omega (arith, slice_get_within places i p is))
 
       empty : (v : Value) → count_of token_cmp old (token i v) ≡ 0
-      empty v = (subst (IsMarked Says old i) (slice_get_past front i (omega (arith, size))) (marked i)) v
+      empty v = (subst (IsMarked SaysMultiset old i) (slice_get_past front i (omega (arith, size))) (marked i)) v
 
-      by : (j < i) ⊎ ((j ≡ i) ⊎ (i < j)) → IsMarked Says new j (slice_get (front ++ p ∷ []) j)
-      by (inl less) = subst (IsMarked Says new j) (sym (get_front front (p ∷ []) j (omega (arith, less, size))))
+      by : (j < i) ⊎ ((j ≡ i) ⊎ (i < j)) → IsMarked SaysMultiset new j (slice_get (front ++ p ∷ []) j)
+      by (inl less) = subst (IsMarked SaysMultiset new j) (sym (get_front front (p ∷ []) j (omega (arith, less, size))))
           (kept j (slice_get front j) (λ v. elsewhere j v (λ same. omega (arith, less, same))) (marked j))
-      by (inr (inl same)) = subst (IsMarked Says new j) (sym (get_last front p j (same ∙ sym size)))
+      by (inr (inl same)) = subst (IsMarked SaysMultiset new j) (sym (get_last front p j (same ∙ sym size)))
           (bag, first, λ v. ap (λ k. count_of token_cmp new (token k v)) same ∙ here v ∙ omega (arith, empty v))
-      by (inr (inr more)) = subst (IsMarked Says new j) (sym past)
-          (λ v. elsewhere j v (λ same. omega (arith, more, same)) ∙ subst (IsMarked Says old j) (slice_get_past front j (omega (arith, more, size))) (marked j) v)
+      by (inr (inr more)) = subst (IsMarked SaysMultiset new j) (sym past)
+          (λ v. elsewhere j v (λ same. omega (arith, more, same)) ∙ subst (IsMarked SaysMultiset old j) (slice_get_past front j (omega (arith, more, size))) (marked j) v)
         where
           past : slice_get (front ++ p ∷ []) j ≡ None
           past = slice_get_past (front ++ p ∷ []) j (omega (arith, length-append front (p ∷ []), more, size))
 
 -- no token stands on the next place yet
-pub next_empty : (Says : Term → List (Value × ℕ) → Type 0) (places : List Place) (i : ℕ) (m : List (Token × ℕ)) (v : Value) → i ≤ length places → AreMarked Says (take i places) m → count_of token_cmp m (token i v) ≡ 0
-next_empty Says places i m v within marked =
+pub next_empty : (SaysMultiset : Term → List (Value × ℕ) → Type 0) (places : List Place) (i : ℕ) (m : List (Token × ℕ)) (v : Value) → i ≤ length places → AreMarked SaysMultiset (take i places) m → count_of token_cmp m (token i v) ≡ 0
+next_empty SaysMultiset places i m v within marked =
     let size = length-take-le i places within in
-    (subst (IsMarked Says m i) (slice_get_past (take i places) i (omega (arith, size))) (marked i)) v
+    (subst (IsMarked SaysMultiset m i) (slice_get_past (take i places) i (omega (arith, size))) (marked i)) v
 
 -- ---- places that say no terms
 
@@ -128,15 +133,37 @@ module _ (places : List Place) (i : ℕ) (p : Place) (at : slice_get places i �
 
 -- ---- one initial marking
 
-first_once : (term : Option Term) (number : Option ℕ) (b c : List (Value × ℕ)) → IsFirstBy SaysNothing term number b → IsFirstBy SaysNothing term number c → b ≡ c
-first_once None None b c first also = first ∙ sym also
-first_once None (Some n) b c first also = first ∙ sym also
-first_once (Some e) number b c first also = absurd first
+-- terms say one multiset at most
+abbrev pub SaysOnce : (Term → List (Value × ℕ) → Type 0) → Type 0
+SaysOnce SaysMultiset = (e : Term) (b c : List (Value × ℕ)) → SaysMultiset e b → SaysMultiset e c → b ≡ c
 
-marked_once : (i : ℕ) (o : Option Place) (m k : List (Token × ℕ)) (v : Value) → IsMarked SaysNothing m i o → IsMarked SaysNothing k i o → count_of token_cmp m (token i v) ≡ count_of token_cmp k (token i v)
-marked_once i None m k v is also = is v ∙ sym (also v)
-marked_once i (Some p) m k v (b, first, stand) (c, second, others) =
-    stand v ∙ ap (λ bag. count_of value_cmp bag v) (first_once (said p.hl_marking) (said p.marking) b c first second) ∙ sym (others v)
+-- a term without variables says one, where it gives one thing at most
+pub says_once : (items : List Declaration) → ((e : Term) (o p : Outcome) → HasValue items [] [] e o → HasValue items [] [] e p → o ≡ p) → SaysOnce (SaysMultiset items)
+says_once items once e b c (o, value, is) (p, also, that) = let both : Some b ≡ Some c = sym is ∙ ap said_by (once e o p value also) ∙ that in cc
+
+-- where each term says what it is to say, nothing is said of terms otherwise
+pub says_alike : (S T : Term → List (Value × ℕ) → Type 0) → ((e : Term) (b : List (Value × ℕ)) → S e b → T e b) → (places : List Place) (m : List (Token × ℕ)) → AreMarked S places m → AreMarked T places m
+says_alike S T to places m marked i = by (slice_get places i) (marked i)
+  where
+    first : (term : Option Term) (number : Option ℕ) (b : List (Value × ℕ)) → IsFirstBy S term number b → IsFirstBy T term number b
+    first None None b is = is
+    first None (Some n) b is = is
+    first (Some e) number b is = to e b is
+
+    by : (o : Option Place) → IsMarked S m i o → IsMarked T m i o
+    by None is = is
+    by (Some p) (b, is, stand) = (b, first (said p.hl_marking) (said p.marking) b is, stand)
+
+module _ (SaysMultiset : Term → List (Value × ℕ) → Type 0) (once : SaysOnce SaysMultiset) where
+  first_once : (term : Option Term) (number : Option ℕ) (b c : List (Value × ℕ)) → IsFirstBy SaysMultiset term number b → IsFirstBy SaysMultiset term number c → b ≡ c
+  first_once None None b c first also = first ∙ sym also
+  first_once None (Some n) b c first also = first ∙ sym also
+  first_once (Some e) number b c first also = once e b c first also
+
+  pub marked_once : (i : ℕ) (o : Option Place) (m k : List (Token × ℕ)) (v : Value) → IsMarked SaysMultiset m i o → IsMarked SaysMultiset k i o → count_of token_cmp m (token i v) ≡ count_of token_cmp k (token i v)
+  marked_once i None m k v is also = is v ∙ sym (also v)
+  marked_once i (Some p) m k v (b, first, stand) (c, second, others) =
+      stand v ∙ ap (λ bag. count_of value_cmp bag v) (first_once (said p.hl_marking) (said p.marking) b c first second) ∙ sym (others v)
 
 counted : (entries : List (Token × ℕ)) → Every (λ e. (0 < e.1) × (e.1 ≤ MAX_COUNT)) entries → Every (λ e. 0 < e.1) entries
 counted [] all = tt
@@ -145,7 +172,9 @@ counted (e ∷ entries) all = (all.0.0, counted entries all.1)
 multiset_of : (m : List (Token × ℕ)) → IsBag token_cmp m → IsMultiset token_cmp m
 multiset_of m is = record { rising = is.rising; positive = counted m is.counted }
 
-pub initial_once : ((xs ys : List (Token × ℕ)) → IsMultiset token_cmp xs → IsMultiset token_cmp ys → IsSame token_cmp xs ys → xs ≡ ys) → (f g : Flat) (m k : List (Token × ℕ)) → f.places ≡ g.places → IsInitial f m → IsInitial g k → m ≡ k
-initial_once entries f g m k same is also =
+pub initial_once : ((xs ys : List (Token × ℕ)) → IsMultiset token_cmp xs → IsMultiset token_cmp ys → IsSame token_cmp xs ys → xs ≡ ys) → (f g : Flat) (m k : List (Token × ℕ)) → SaysOnce (SaysMultiset f.declarations)
+    → f.places ≡ g.places → f.declarations ≡ g.declarations → IsInitial f m → IsInitial g k → m ≡ k
+initial_once entries f g m k once same declared is also =
+    let marked : AreMarked (SaysMultiset f.declarations) g.places k = subst (λ ds. AreMarked (SaysMultiset ds) g.places k) (sym declared) also.marked in
     entries m k (multiset_of m is.bag) (multiset_of k also.bag)
-    (λ t. marked_once t.place (slice_get f.places t.place) m k t.value (is.marked t.place) (subst (λ ps. IsMarked SaysNothing k t.place (slice_get ps t.place)) (sym same) (also.marked t.place)))
+    (λ t. marked_once (SaysMultiset f.declarations) once t.place (slice_get f.places t.place) m k t.value (is.marked t.place) (subst (λ ps. IsMarked (SaysMultiset f.declarations) k t.place (slice_get ps t.place)) (sym same) (marked t.place)))

@@ -80,7 +80,7 @@ constant_back items e f empty =
 -- ---- what is said
 
 module _ {X T : Type 0} (P : T → Fault → Type 0) (h : X → Option T) (f : Fault) where
-  said_where : (xs : List X) (e : T) → Contains (filter_map h xs) e → P e f → StandsInSome (λ x. InSaid P (h x)) xs f
+  pub said_where : (xs : List X) (e : T) → Contains (filter_map h xs) e → P e f → StandsInSome (λ x. InSaid P (h x)) xs f
   said_where [] e there stands = absurd (contains_nil e there)
   said_where (x ∷ xs) e there stands = by (h x) refl there (λ c. said_where xs e c stands)
     where
@@ -95,7 +95,7 @@ module _ {X T : Type 0} (P : T → Fault → Type 0) (h : X → Option T) (f : F
           which (inl same) = (x, contains_first x xs, subst (λ o. InSaid P o f) (sym is) (subst (λ u. P u f) (sym same) stands))
           which (inr later) = behind (rest later)
 
-  where_said : (xs : List X) → StandsInSome (λ x. InSaid P (h x)) xs f → (e : T) × Contains (filter_map h xs) e × P e f
+  pub where_said : (xs : List X) → StandsInSome (λ x. InSaid P (h x)) xs f → (e : T) × Contains (filter_map h xs) e × P e f
   where_said [] (x, c, holds) = absurd (contains_nil x c)
   where_said (y ∷ xs) (x, c, holds) = by (h y) refl (contains_cases y xs x c) (λ later. where_said xs (x, later, holds))
     where
@@ -199,7 +199,7 @@ module _ (f : Flat) where
 
 -- ---- a net and its flat net
 
-same_terms : (n : Net) (xs ys : List Arc) → AllZip (IsRewired n) xs ys → filter_map (λ a. said a.inscription) xs ≡ filter_map (λ a. said a.inscription) ys
+pub same_terms : (n : Net) (xs ys : List Arc) → AllZip (IsRewired n) xs ys → filter_map (λ a. said a.inscription) xs ≡ filter_map (λ a. said a.inscription) ys
 same_terms n [] [] alike = refl
 same_terms n [] (y ∷ ys) alike = absurd alike
 same_terms n (x ∷ xs) [] alike = absurd alike

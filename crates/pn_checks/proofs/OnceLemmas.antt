@@ -1,4 +1,4 @@
--- In a tree whose offsets rise the least fault is one, where it is of shape or of ids and links.
+-- In a tree whose offsets rise the least fault is one.
 use Rattle.std.proofs.Common.{◌≡◌, ◌⊎◌, inl, inr, ℕ, true, false, List, codes, Option, None, Some, IfSome, refl, sym, ap, ◌∙◌, subst, arith}
 use Rattle.std.specs.List.{Contains}
 use Rattle.std.specs.Str.{bytes_eq}
@@ -14,12 +14,15 @@ use Rattle.pn_faults.proofs.RisingLemmas.{IsWithin, neither_before}
 use Rattle.pn_checks.specs.Linked.{IsLeastInTree}
 use Rattle.pn_checks.proofs.HeldLemmas.{one_element, one_id}
 use Rattle.pn_facts.proofs.Each.{one_of}
+use Rattle.pn_checks.specs.Verdicts.{IsFaultOf, in_tree, no_value}
+use Rattle.pn_checks.proofs.BlameLemmas.{TypingWay, by_value, told_once, typing_way, typing_ways_once}
 use Rattle.pn_checks.proofs.SourceLemmas.{ComesFrom, arcs_from, place_references_from, transition_references_from}
 use Rattle.pn_markup.specs.Offsets.{HasRisingOffsets}
-use Rattle.pn_net.specs.Documents.{HasNoShapeFault, HasSoundLinks, StandsInTree, links, shape, sorts, typing}
+use Rattle.pn_net.specs.Documents.{HasNoShapeFault, HasSoundLinks, HasSoundNetSorts, StandsInTree, links, shape, sorts, told_in, typing}
 use Rattle.pn_net.specs.Ids.{IdHolder, holders_of}
 use Rattle.pn_net.specs.Links.{IsOnSide, IsReference, IsUnknownEnd, IsWrongEnd, StandsInLinks, duplicate_id, unknown_end, wrong_end, reference_cycle, source, target, reference, arc, to_place, to_transition}
 use Rattle.pn_net.specs.Objects.{net_arcs, net_place_references, net_transition_references}
+use Rattle.pn_net.specs.Typing.{StandsInSorts}
 use Rattle.pn_objects.specs.declared.net.Net.{Net}
 use Rattle.pn_objects.specs.declared.object.Arc.{Arc}
 use Rattle.pn_objects.specs.declared.object.Reference.{Reference}
@@ -176,25 +179,50 @@ module _ (tree : Element) (one_element : (x y : Element) → IsWithin child_elem
   ways_once f g (of_cycle r there is) (of_cycle s also that) same number =
       is ∙ ap (λ (c : Reference). fault_at reasons.ReferenceCycle c.at c.id) (one_reference r s there also (sym (ap (λ (x : Fault). x.at) is) ∙ same ∙ ap (λ (x : Fault). x.at) that)) ∙ sym that
 
-  -- the least fault of a tree in which a fault of shape or of ids and links stands
-  pub least_once : (f g : Fault) → (HasSoundLinks tree → ⊥) → IsLeastInTree tree f → IsLeastInTree tree g → f ≡ g
-  least_once f g unsound first second = by (least_fault (shape_faults tree)) refl
+  pub one_link_fault : (f g : Fault) → StandsInLinks The f → StandsInLinks The g → f.at ≡ g.at → number_of f.reason ≡ number_of g.reason → f ≡ g
+  one_link_fault f g stands also = ways_once f g (way f stands) (way g also)
+
+-- ---- of all phases
+
+module _ (tree : Element) (rises : HasRisingOffsets tree) where
+  links_once : (f g : Fault) → StandsInLinks (net_of tree) f → StandsInLinks (net_of tree) g → f.at ≡ g.at → number_of f.reason ≡ number_of g.reason → f ≡ g
+  links_once = one_link_fault tree (one_element tree rises) (one_id tree rises)
+
+  -- a fault behind the phase shape
+  data PhaseWay (f : Fault) : Type 0 where
+    by_links : StandsInLinks (net_of tree) f → PhaseWay f
+    by_sorts : (h : Fault) → HasSoundLinks tree → StandsInSorts (net_of tree) h → f ≡ told_in tree h → PhaseWay f
+    by_typing : HasSoundNetSorts tree → TypingWay tree f → PhaseWay f
+
+  phase_way : HasNoShapeFault tree → (f : Fault) → StandsInTree tree f → PhaseWay f
+  phase_way clean f (shape _ there) = absurd (contains_nil f (subst (λ fs. Contains fs f) clean there))
+  phase_way clean f (links _ also stands) = by_links stands
+  phase_way clean f (sorts _ h sound stands is) = by_sorts h sound stands is
+  phase_way clean f (typing _ sound stands) = by_typing sound (typing_way tree f stands)
+
+  stands_way : HasNoShapeFault tree → (f : Fault) → IsFaultOf tree f → PhaseWay f
+  stands_way clean f (in_tree _ stands) = phase_way clean f stands
+  stands_way clean f (no_value _ sound lacks) = by_typing sound (by_value lacks.term.at lacks.is.1)
+
+  phases_once : (f g : Fault) → PhaseWay f → PhaseWay g → f.at ≡ g.at → number_of f.reason ≡ number_of g.reason → f ≡ g
+  phases_once f g (by_links stands) (by_links also) same number = links_once f g stands also same number
+  phases_once f g (by_links stands) (by_sorts h sound also is) same number = absurd (sound.links f stands)
+  phases_once f g (by_links stands) (by_typing sound also) same number = absurd (sound.linked.links f stands)
+  phases_once f g (by_sorts h sound stands is) (by_links also) same number = absurd (sound.links g also)
+  phases_once f g (by_sorts h sound stands is) (by_sorts k so also that) same number =
+      is ∙ told_once tree rises h k stands also (sym (ap (λ (x : Fault). x.at) is) ∙ same ∙ ap (λ (x : Fault). x.at) that) (sym (ap (λ (x : Fault). number_of x.reason) is) ∙ number ∙ ap (λ (x : Fault). number_of x.reason) that) ∙ sym that
+  phases_once f g (by_sorts h sound stands is) (by_typing so also) same number = absurd (so.sorts h stands)
+  phases_once f g (by_typing sound stands) (by_links also) same number = absurd (sound.linked.links g also)
+  phases_once f g (by_typing sound stands) (by_sorts h so also is) same number = absurd (sound.sorts h also)
+  phases_once f g (by_typing sound stands) (by_typing so also) same number = typing_ways_once tree rises f g stands also same number
+
+  -- the least fault of a tree
+  pub least_fault_is_one : (f g : Fault) → IsLeastInTree tree f → IsLeastInTree tree g → f ≡ g
+  least_fault_is_one f g first second = by (least_fault (shape_faults tree)) refl
     where
-      clean_by : least_fault (shape_faults tree) ≡ None → HasNoShapeFault tree
-      clean_by none = least_fault-is_none (shape_faults tree) none
-
-      link_of : HasNoShapeFault tree → (h : Fault) → StandsInTree tree h → StandsInLinks The h
-      link_of clean h (shape _ there) = absurd (contains_nil h (subst (λ fs. Contains fs h) clean there))
-      link_of clean h (links _ also there) = there
-      link_of clean h (sorts _ k sound there told) = absurd (unsound sound)
-      link_of clean h (typing _ sound there) = absurd (unsound sound.linked)
-
       by : (o : Option Fault) → least_fault (shape_faults tree) ≡ o → f ≡ g
       by (Some h) is = subst (λ o. IfSome o (λ k. f ≡ k)) is first.of_shape ∙ sym (subst (λ o. IfSome o (λ k. g ≡ k)) is second.of_shape)
       by None is =
-          let clean = clean_by is in
+          let clean = least_fault-is_none (shape_faults tree) is in
           let together = neither_before f g (second.least.1 f first.least.0) (first.least.1 g second.least.0) in
-          ways_once f g (way f (link_of clean f first.least.0)) (way g (link_of clean g second.least.0)) together.0 together.1
-
-pub least_is_one : (tree : Element) (f g : Fault) → HasRisingOffsets tree → (HasSoundLinks tree → ⊥) → IsLeastInTree tree f → IsLeastInTree tree g → f ≡ g
-least_is_one tree f g rises = least_once tree (one_element tree rises) (one_id tree rises) f g
+          phases_once f g (stands_way clean f first.least.0) (stands_way clean g second.least.0) together.0 together.1

@@ -10,6 +10,8 @@ use Rattle.pn_shape.proofs.WrittenLemmas.{both_all}
 use Rattle.pn_pages.proofs.GatherLemmas.{own_layer, page_law}
 use Rattle.pn_checks.specs.Linked.{IsLinked}
 use Rattle.pn_checks.specs.Plain.{ArePlain, IsPlainPlace}
+use Rattle.pn_checks.specs.NoValue.{IsNoValue}
+use Rattle.pn_checks.specs.Verdicts.{IsAccepted, in_tree, no_value}
 use Rattle.pn_net.specs.Documents.{HasSoundLinks, IsWellTyped, StandsInTree, links, shape, sorts, typing}
 use Rattle.pn_net.specs.Flattening.{net_of_flat}
 use Rattle.pn_net.specs.Labels.{condition_terms, inscription_terms, marking_terms, net_terms, said, type_exprs}
@@ -46,7 +48,7 @@ module _ {A : Type 0} (k : Kind) (P : A → Type 0) (own : layer.Page-F (List A)
       (both_all P (own (own_layer own p)) (flat_map (in_page own) (out-Page p).pages) (holds (IsSpellablePage k levels) p is)
       (flat_all P (IsSpellablePage k levels) (in_page own) (page_all levels) (out-Page p).pages is.pages))
 
-  pages_all : (levels : ℕ) (ps : List Page) → AllByRecursion (IsSpellablePage k levels) ps → AllByRecursion P (flat_map (in_page own) ps)
+  pub pages_all : (levels : ℕ) (ps : List Page) → AllByRecursion (IsSpellablePage k levels) ps → AllByRecursion P (flat_map (in_page own) ps)
   pages_all levels ps all = flat_all P (IsSpellablePage k levels) (in_page own) (page_all levels) ps all
 
 -- ---- what a place/transition net has not
@@ -155,6 +157,10 @@ module _ (n : Net) (is_plain : n.kind ≡ kind.PtNet) (such : IsSpellableNet n) 
       let no : None ≡ Some is.term = sym none ∙ is.is_inscription in cc
   no_typing_fault f (not_ground _ is) = nowhere (marking_terms n) is.term no_markings is.stands
 
+  pub all_have_values : (f : Fault) → IsNoValue n f → ⊥
+  all_have_values f is = let none = unsaid tag.HlInitialMarking (IsSpellableLabel (IsSpelledTerm kind.PtNet)) no_marking is.place.hl_marking (one_of (IsSpellablePlace kind.PtNet) (net_places n) is.place places is.stands).hl_marking in
+      let no : None ≡ Some is.term = sym none ∙ is.is_marking in cc
+
   plain_place : (p : Place) → IsSpellablePlace kind.PtNet p → IsPlainPlace p
   plain_place p is = record { no_term = unsaid tag.HlInitialMarking (IsSpellableLabel (IsSpelledTerm kind.PtNet)) no_marking p.hl_marking is.hl_marking; counted = count p.marking is.marking }
     where
@@ -177,6 +183,10 @@ plain_well_typed tree sound is_plain f stands = by stands
     by (links _ clean there) = sound.links f there
     by (sorts _ g linked there told) = no_sort_fault (net_of tree) is_plain such g there
     by (typing _ sound there) = no_typing_fault (net_of tree) is_plain such f there
+
+pub plain_accepted : (tree : Element) → HasSoundLinks tree → (net_of tree).kind ≡ kind.PtNet → IsAccepted tree
+plain_accepted tree sound is_plain f (in_tree _ there) = plain_well_typed tree sound is_plain f there
+plain_accepted tree sound is_plain f (no_value _ fine there) = all_have_values (net_of tree) is_plain (net_spellable tree (net_of tree) sound.spells refl) f there
 
 -- ---- the flat net of such a net
 

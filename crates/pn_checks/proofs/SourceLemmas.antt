@@ -1,18 +1,21 @@
 -- Which elements of a document its objects come from.
-use Rattle.std.proofs.Common.{◌≡◌, ◌⊎◌, inl, inr, ℕ, zero, suc, Bool, true, false, cond, List, [], ◌∷◌, ◌++◌, map, codes, Some, refl, sym, ap, ◌∙◌, subst}
+use Rattle.std.proofs.Common.{◌≡◌, ◌⊎◌, inl, inr, ℕ, zero, suc, Bool, true, false, cond, List, [], ◌∷◌, ◌++◌, map, codes, Option, None, Some, refl, sym, ap, ◌∙◌, subst}
 use Rattle.std.specs.List.{AllByRecursion, Contains, find, filter, flat_map}
 use Rattle.std.specs.Option.{unwrap_or}
 use Rattle.pn_facts.proofs.Each.{each}
-use Rattle.pn_facts.proofs.Contained.{contains_first, contains_next}
+use Rattle.pn_facts.proofs.Contained.{contains_at, contains_first, contains_next}
 use Rattle.pn_faults.proofs.RisingLemmas.{IsWithin, itself, inside}
 use Rattle.pn_objects.specs.declared.net.Page.{Page}
 use Rattle.pn_objects.specs.declared.net.Page.TheOpen as layer
 use Rattle.pn_objects.specs.declared.net.Page.TheViews.{out-Page, out-roll-Page}
-use Rattle.pn_net.specs.Objects.{in_page, in_pages, net_arcs, net_place_references, net_places, net_transition_references, net_transitions}
+use Rattle.pn_net.specs.Objects.{declared_by, in_page, in_pages, net_arcs, net_declarations, net_place_references, net_places, net_transition_references, net_transitions}
 use Rattle.pn_shape.proofs.WrittenLemmas.{both_all}
 use Rattle.pn_pages.proofs.GatherLemmas.{own_layer, page_law}
-use Rattle.pn_spelling.specs.Parts.{child_elements, children_named, has_name}
-use Rattle.pn_spelling.specs.ReadNets.{arc_read, child_or_self, net_of, page_with, page_within, place_read, reference_read, transition_read}
+use Rattle.pn_checks.proofs.FlatLemmas.{flat_all}
+use Rattle.pn_spelling.specs.Parts.{child_elements, children_named, first_child, has_name}
+use Rattle.pn_spelling.specs.ReadDeclarations.{declaration_read}
+use Rattle.pn_spelling.specs.ReadNets.{arc_read, child_or_self, declarations_label, inner_or_self, net_of, page_with, page_within, place_read, reference_read, structured, transition_read}
+use Rattle.pn_syntax.specs.declared.declaration.Declaration.{Declaration}
 use Rattle.pn_tree.specs.Depth.{depth_of}
 use Rattle.pn_tree.specs.declared.element.Element.{Element}
 
@@ -54,6 +57,32 @@ found_or p (x ∷ xs) d = by (p x) (found_or p xs d)
 
 pub pages_in : (pages : List Page) (e : Element) → (out-Page (page_with pages e)).pages ≡ pages
 pages_in pages e = ap (λ l. l.pages) (out-roll-Page _)
+
+-- ---- elements within
+
+pub within_kid : (e y z : Element) → IsWithin child_elements e y → Contains (child_elements y) z → IsWithin child_elements e z
+within_kid e y z (itself _ _ same) there = inside e z z (subst (λ x. Contains (child_elements x) z) same there) (itself z z refl)
+within_kid e y z (inside _ _ p c rest) there = inside e z p c (within_kid p y z rest there)
+
+pub all_contained : {X : Type 0} (P : X → Type 0) (xs : List X) → ((x : X) → Contains xs x → P x) → AllByRecursion P xs
+all_contained P [] each = tt
+all_contained P (x ∷ xs) each = (each x (contains_first x xs), all_contained P xs (λ y there. each y (contains_next x xs y there)))
+
+pub inner_within : (e y : Element) → IsWithin child_elements e y → IsWithin child_elements e (inner_or_self y)
+inner_within e y within = by (first_child y) refl
+  where
+    by : (o : Option Element) → first_child y ≡ o → IsWithin child_elements e (unwrap_or o y)
+    by None is = within
+    by (Some z) is = within_kid e y z within (contains_at (child_elements y) 0 z is)
+
+pub or_self_within : (name : List ℕ) (e y : Element) → IsWithin child_elements e y → IsWithin child_elements e (child_or_self name y)
+or_self_within name e y within = by (found_or (has_name name) (child_elements y) y)
+  where
+    by : (child_or_self name y ≡ y) ⊎ Contains (child_elements y) (child_or_self name y) → IsWithin child_elements e (child_or_self name y)
+    by (inl same) = subst (IsWithin child_elements e) (sym same) within
+    by (inr there) = within_kid e y (child_or_self name y) within there
+
+-- ---- what stands in a net
 
 -- what holds of a thing in an element holds of it in those around
 module _ {A : Type 0} (P : Element → A → Type 0) (up : (e k : Element) → Contains (child_elements e) k → (a : A) → P k a → P e a) where
@@ -124,3 +153,39 @@ place_references_from root = from_root (codes "referencePlace") reference_read (
 
 pub transition_references_from : (root : Element) → AllByRecursion (ComesFrom (codes "referenceTransition") reference_read root) (net_transition_references (net_of root))
 transition_references_from root = from_root (codes "referenceTransition") reference_read (λ p. p.transition_refs) (λ pages e. ap (λ l. l.transition_refs) (out-roll-Page _)) root
+
+-- ---- declarations
+
+-- it is what an element says that stands in the element
+pub record IsSpelled {A : Type 0} (read : Element → A) (e : Element) (a : A) : Type 0 where
+  pub source : Element
+  pub within : IsWithin child_elements e source
+  pub is : a ≡ read source
+
+spelled_up : {A : Type 0} (read : Element → A) (e k : Element) → Contains (child_elements e) k → (a : A) → IsSpelled read k a → IsSpelled read e a
+spelled_up read e k there a from = record { source = from.source; within = inside e from.source k there from.within; is = from.is }
+
+abbrev pub AreSpelledIn : Element → List Declaration → Type 0
+AreSpelledIn e = AllByRecursion (IsSpelled declaration_read e)
+
+-- the declarations that stand in a kid
+label_declared : (e k : Element) → Contains (child_elements e) k → AreSpelledIn e (declarations_label k).value
+label_declared e k there =
+    let inner = structured k in
+    let within = inner_within e (child_or_self (codes "structure") k) (or_self_within (codes "structure") e k (inside e k k there (itself k k refl))) in
+    mapped_all (IsSpelled declaration_read e) declaration_read (child_elements inner)
+    (all_contained (λ x. IsSpelled declaration_read e (declaration_read x)) (child_elements inner) (λ x c. record { source = x; within = within_kid e inner x within c; is = refl }))
+
+labels_declared : (e : Element) → AreSpelledIn e (declared_by (map declarations_label (children_named (codes "declaration") e)))
+labels_declared e =
+    flat_all (IsSpelled declaration_read e) (λ l. AreSpelledIn e l.value) (λ l. l.value) (λ l all. all) (map declarations_label (children_named (codes "declaration") e))
+    (mapped_all (λ l. AreSpelledIn e l.value) declarations_label (children_named (codes "declaration") e)
+    (each_named (λ k. AreSpelledIn e (declarations_label k).value) (codes "declaration") e (λ k there named. label_declared e k there)))
+
+pub declarations_from : (root : Element) → AreSpelledIn root (net_declarations (net_of root))
+declarations_from root =
+    let net = child_or_self (codes "net") root in
+    both_all (IsSpelled declaration_read root) (declared_by (net_of root).declarations) (in_pages (λ p. declared_by p.declarations) (net_of root))
+    (in_root (IsSpelled declaration_read) (spelled_up declaration_read) root (declared_by (net_of root).declarations) (labels_declared net))
+    (all_in_pages (IsSpelled declaration_read) (spelled_up declaration_read) (λ p. declared_by p.declarations)
+    (λ pages e. subst (AreSpelledIn e) (sym (ap (λ l. declared_by l.declarations) (out-roll-Page _))) (labels_declared e)) root)

@@ -1,4 +1,10 @@
+pub mod NoValue
+pub mod Verdicts
 pub mod Linked
 pub mod Initial
 pub mod Plain
 pub mod Sorts
+pub mod Told
+pub mod LabelFaults
+pub mod SoundLabels
+pub mod Tokens

@@ -1,9 +1,10 @@
 ghost use Rattle.std.specs.Prelude.{◌≡◌, Err, IfOk};
 ghost use Rattle.pn_checks.specs.Linked.{IsLeastInTree, IsLinked};
+ghost use Rattle.pn_checks.specs.Verdicts.{IsFaultOf};
 ghost use Rattle.pn_faults.specs.declared.fault.Fault.{Fault};
 ghost use Rattle.pn_faults.specs.declared.fault.Refusal.TheVariants as Refusal;
 ghost use Rattle.pn_markup.specs.Offsets.{HasRisingOffsets};
-ghost use Rattle.pn_net.specs.Documents.{HasSoundLinks, StandsInTree};
+ghost use Rattle.pn_net.specs.Documents.{HasSoundLinks};
 ghost use Rattle.pn_tree.specs.Elements.{IsTree};
 
 use pn_core_grammar::shape;
@@ -25,7 +26,7 @@ use std::alloc::Global;
 pub fn linked(alloc: Global, tree: &Tree) -> Result<Flat, Refusal>
     ensures linked { IfOk result (IsLinked tree.now) }
     ensures early { (f : Fault) → result ≡ Err (Refusal.Fault f) → HasSoundLinks tree.now → ⊥ }
-    ensures stands { (f : Fault) → result ≡ Err (Refusal.Fault f) → StandsInTree tree.now f }
+    ensures stands { (f : Fault) → result ≡ Err (Refusal.Fault f) → IsFaultOf tree.now f }
     ensures least { (f : Fault) → result ≡ Err (Refusal.Fault f) → HasRisingOffsets tree.now → IsLeastInTree tree.now f }
 {
     offsets_tell_ids_apart();

@@ -11,27 +11,26 @@ use Rattle.pn_markup.specs.Offsets.{HasRisingOffsets}
 use Rattle.pn_markup.proofs.OrderLemmas.{document_rises}
 use Rattle.pn_scan.proofs.ReachLemmas.{one_tree}
 use Rattle.pn_spelling.specs.ReadNets.{net_of}
-use Rattle.pn_command.specs.Answer.{Answer, EachAnswer, ForAnswer, IsDueFor, input_too_long, broken, for_tree, IsDueForNet, output_too_long, given, IsDueForTree, faulty, not_yet, for_net, IsTheDue, Says, SaysSuch, limit_answer, output_answer, refusal_answer, status_of_due, usage_answer, usage_due}
+use Rattle.pn_command.specs.Answer.{Answer, EachAnswer, ForAnswer, IsDueFor, input_too_long, broken, for_tree, IsDueForNet, output_too_long, given, IsDueForTree, faulty, for_net, IsTheDue, Says, SaysSuch, limit_answer, output_answer, refusal_answer, status_of_due, usage_answer, usage_due}
 use Rattle.pn_command.specs.Outputs.{GivesOutput, HasText, IsLong, IsOver}
-use Rattle.pn_command.specs.Verdict.{IsNotYet, IsRefusal, IsAcceptedPlain, IsToldOf}
+use Rattle.pn_checks.specs.Linked.{IsLeastInTree}
+use Rattle.pn_checks.specs.Verdicts.{IsAccepted}
+use Rattle.pn_command.specs.Verdict.{IsRefusal}
 use Rattle.pn_command.specs.declared.outputs.Output.{Output}
 use Rattle.pn_command.specs.declared.lines.Limit.TheVariants as limits
 use Rattle.pn_command.specs.declared.lines.Refusal.{Refusal}
 use Rattle.pn_objects.specs.declared.net.Net.{Net}
 use Rattle.pn_command.proofs.BreakLemmas.{one_break}
 use Rattle.pn_command.proofs.OutputLemmas.{one_output}
-use Rattle.pn_command.proofs.VerdictLemmas.{one_told}
+use Rattle.pn_checks.proofs.OnceLemmas.{least_fault_is_one}
 use Rattle.pn_command.specs.Words.{asked_of}
 
--- a document is taken, or not taken yet, or refused for one fault
-taken_and_not_yet : (tree : Element) → IsAcceptedPlain tree → IsNotYet tree → ⊥
-taken_and_not_yet tree p q = q.other p.plain
-
-taken_and_told : (tree : Element) (f : Fault) → IsAcceptedPlain tree → IsToldOf tree f → ⊥
-taken_and_told tree f p q = p.well_typed f q.least.least.0
+-- a document is accepted, or refused for one fault
+accepted_and_told : (tree : Element) (f : Fault) → IsAccepted tree → IsLeastInTree tree f → ⊥
+accepted_and_told tree f p q = p f q.least.0
 
 -- a command answers a net in one way
-net_once : (asked : Asked) (tree : Element) (a b : Answer) → IsAcceptedPlain tree → IsDueForNet asked (net_of tree) a → IsDueForNet asked (net_of tree) b → b ≡ a
+net_once : (asked : Asked) (tree : Element) (a b : Answer) → IsAccepted tree → IsDueForNet asked (net_of tree) a → IsDueForNet asked (net_of tree) b → b ≡ a
 net_once asked tree a b taken (output_too_long x is p g) (output_too_long y also q h) = h ∙ sym g
 net_once asked tree a b taken (output_too_long x is p g) (given y also q h) = absurd (q (subst (IsOver asked) (one_output asked tree x y taken is also) p))
 net_once asked tree a b taken (given x is p g) (output_too_long y also q h) = absurd (p (subst (IsOver asked) (sym (one_output asked tree x y taken is also)) q))
@@ -39,14 +38,9 @@ net_once asked tree a b taken (given x is p g) (given y also q h) = h ∙ ap out
 
 -- and a tree whose offsets rise
 tree_once : (asked : Asked) (tree : Element) (a b : Answer) → HasRisingOffsets tree → IsDueForTree asked tree a → IsDueForTree asked tree b → b ≡ a
-tree_once asked tree a b rises (faulty f p g) (faulty e q h) = h ∙ ap (λ x. refusal_answer (refusals.Fault x)) (one_told tree e f rises q p) ∙ sym g
-tree_once asked tree a b rises (faulty f p g) (not_yet q h) = absurd (p.asked q)
-tree_once asked tree a b rises (faulty f p g) (for_net q h) = absurd (taken_and_told tree f q p)
-tree_once asked tree a b rises (not_yet p g) (faulty e q h) = absurd (q.asked p)
-tree_once asked tree a b rises (not_yet p g) (not_yet q h) = h ∙ sym g
-tree_once asked tree a b rises (not_yet p g) (for_net q h) = absurd (taken_and_not_yet tree q p)
-tree_once asked tree a b rises (for_net p g) (faulty e q h) = absurd (taken_and_told tree e p q)
-tree_once asked tree a b rises (for_net p g) (not_yet q h) = absurd (taken_and_not_yet tree p q)
+tree_once asked tree a b rises (faulty f p g) (faulty e q h) = h ∙ ap (λ x. refusal_answer (refusals.Fault x)) (least_fault_is_one tree rises e f q p) ∙ sym g
+tree_once asked tree a b rises (faulty f p g) (for_net q h) = absurd (accepted_and_told tree f q p)
+tree_once asked tree a b rises (for_net p g) (faulty e q h) = absurd (accepted_and_told tree e p q)
 tree_once asked tree a b rises (for_net p g) (for_net q h) = net_once asked tree a b p g h
 
 -- for an input and a command one answer is due at most
@@ -112,4 +106,3 @@ said_given asked n o gives short = (output_answer gives.text, (gives.text, gives
 pub refused_due : (asked : Asked) (tree : Element) (r : Refusal) → IsRefusal tree r → HasRisingOffsets tree → IsDueForTree asked tree (refusal_answer r)
 refused_due asked tree (refusals.Broken k) is rises = absurd is
 refused_due asked tree (refusals.Fault f) is rises = faulty f (is rises) refl
-refused_due asked tree refusals.NotYet is rises = not_yet is refl

@@ -1,11 +1,9 @@
-pub mod UniqueLemmas
 pub mod BlindLemmas
 pub mod ShapeBlindLemmas
 pub mod ReadBlindLemmas
 pub mod PartBlindLemmas
 pub mod LinkedLemmas
 pub mod OutputLemmas
-pub mod VerdictLemmas
 pub mod WrittenLemmas
 pub mod BreakLemmas
 pub mod AnswerLemmas

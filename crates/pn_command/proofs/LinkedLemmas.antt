@@ -1,13 +1,13 @@
 -- A net that is the same as the flat net of a net without faults of ids and links has no such fault.
-use Rattle.std.proofs.Common.{◌≡◌, ◌≤◌, ◌⊎◌, inl, inr, ℕ, zero, suc, List, [], ◌∷◌, ◌++◌, map, Some, refl, sym, ap, ◌∙◌, subst, append-nil, arith}
+use Rattle.std.proofs.Common.{◌≡◌, ◌⊎◌, inl, inr, ℕ, List, [], ◌∷◌, ◌++◌, map, Some, refl, sym, ap, ◌∙◌, subst, arith}
 use Rattle.std.specs.List.{Contains, slice_get, AllZip, flat_map}
 use Rattle.std.proofs.lemmas.List.{map-append}
 use Rattle.std.proofs.lemmas.List.Elements.{Contains-append_left, Contains-append_right}
 use Rattle.std.proofs.lemmas.Simd.{map-map}
-use Rattle.pn_round_trip.proofs.PageLaws.{bare_page_is, bare_page_layer}
 use Rattle.pn_resolve.proofs.Options.{mapped_some}
-use Rattle.pn_checks.proofs.FlatLemmas.{one_declared}
-use Rattle.pn_pages.proofs.GatherLemmas.{own_layer, page_law}
+use Rattle.pn_checks.proofs.SameEndLemmas.{once}
+use Rattle.pn_checks.proofs.SameFlatLemmas.{arc_from, arcs_alike, declared_alike, in_w, is_one_page, layers, no_place_references, no_transition_references, places_alike, transitions_alike}
+use Rattle.pn_pages.proofs.GatherLemmas.{page_law}
 use Rattle.pn_facts.proofs.Contained.{contains_nil, contains_first, contains_next, contains_cases, contains_at}
 use Rattle.pn_faults.specs.declared.fault.Fault.{Fault}
 use Rattle.pn_faults.specs.Order.{fault_at}
@@ -15,18 +15,17 @@ use Rattle.pn_faults.specs.declared.reason.Reason.TheVariants as reasons
 use Rattle.pn_names.specs.Names.{id_of}
 use Rattle.pn_net.proofs.AlikeLemmas.{alike_contains}
 use Rattle.pn_net.specs.Ends.{End, place, transition, ReachesEnd, at_place, at_transition, by_reference, id_at}
-use Rattle.pn_net.specs.Flattening.{IsFlattened, IsRewired, in_one, on_one_page}
+use Rattle.pn_net.specs.Flattening.{IsFlattened, IsRewired}
 use Rattle.pn_net.specs.Ids.{IdHolder, NamesHolder, holder, holders_of, arc_holder, constant_holder, constants_in, declaration_holders, element_holder, page_holder, place_holder, place_reference_holder, transition_holder, transition_reference_holder}
 use Rattle.pn_net.specs.Ids as ids
 use Rattle.pn_net.specs.Links.{IsDuplicateAmong, IsOnSide, IsReference, IsUnknownEnd, IsWrongEnd, Side, duplicate_id, unknown_end, wrong_end, reference_cycle, places, transitions, side_of}
 use Rattle.pn_net.specs.Links as links
-use Rattle.pn_net.specs.Objects.{declared_by, in_page, in_pages, net_arcs, net_declarations, net_place_references, net_places, net_transition_references, net_transitions}
-use Rattle.pn_objects.specs.Offsets.{IsSameNet, arc_without_offsets, declarations_without_offsets, net_without_offsets, page_without_offsets, place_without_offsets, reference_without_offsets, transition_without_offsets}
-use Rattle.pn_objects.specs.declared.label.Label.{Label}
+use Rattle.pn_net.specs.Objects.{in_page, in_pages, net_arcs, net_declarations, net_place_references, net_places, net_transition_references, net_transitions}
+use Rattle.pn_objects.specs.Offsets.{IsSameNet, arc_without_offsets, place_without_offsets, transition_without_offsets}
 use Rattle.pn_objects.specs.declared.net.Net.{Net}
 use Rattle.pn_objects.specs.declared.net.Page.{Page}
 use Rattle.pn_objects.specs.declared.net.Page.TheOpen as layer
-use Rattle.pn_objects.specs.declared.net.Page.TheViews.{out-Page, out-roll-Page, roll-Page}
+use Rattle.pn_objects.specs.declared.net.Page.TheViews.{out-Page}
 use Rattle.pn_objects.specs.declared.object.Arc.{Arc}
 use Rattle.pn_objects.specs.declared.object.Place.{Place}
 use Rattle.pn_objects.specs.declared.object.Reference.{Reference}
@@ -36,7 +35,7 @@ use Rattle.pn_syntax.specs.Offsets.{constant_without_offset, declaration_without
 use Rattle.pn_syntax.specs.declared.declaration.Declaration.{Declaration}
 use Rattle.pn_syntax.specs.declared.declaration.Declaration.TheVariants as declarations
 use Rattle.pn_syntax.specs.declared.declaration.SortBody.TheVariants as bodies
-use Rattle.pn_command.proofs.UniqueLemmas.{AreUnique, HasSound, contains_map, sound_unique, unique_one}
+use Rattle.pn_checks.proofs.UniqueLemmas.{AreUnique, HasSound, contains_map, sound_unique, unique_one}
 
 -- ---- lists of ids, one within another
 
@@ -111,14 +110,6 @@ unique_ids : (hs : List IdHolder) → AreDistinctIds (ids_in hs) → AreUnique h
 unique_ids [] a = tt
 unique_ids (h ∷ hs) a = (λ x c same. a.0 (subst (Contains (ids_in hs)) (sym same) (contains_map (λ y. y.id) hs x c)), unique_ids hs a.1)
 
--- where no id stands twice, two numbers of one id are one
-once : (hs : List IdHolder) (i j : ℕ) (x y : IdHolder) → AreUnique hs → slice_get hs i ≡ Some x → slice_get hs j ≡ Some y → x.id ≡ y.id → i ≡ j
-once [] i j x y u p q same = absurd cc
-once (h ∷ hs) zero zero x y u p q same = refl
-once (h ∷ hs) zero (suc j) x y u p q same = let here : h ≡ x = cc in absurd (u.0 y (contains_at hs j y q) (ap (λ z. z.id) here ∙ same))
-once (h ∷ hs) (suc i) zero x y u p q same = let here : h ≡ y = cc in absurd (u.0 x (contains_at hs i x p) (ap (λ z. z.id) here ∙ sym same))
-once (h ∷ hs) (suc i) (suc j) x y u p q same = ap suc (once hs i j x y u.1 p q same)
-
 no_duplicate : (hs : List IdHolder) → AreUnique hs → (f : Fault) → IsDuplicateAmong hs f → ⊥
 no_duplicate hs u f d = d.differ (once hs d.one d.another d.first d.second u d.has_first d.has_second d.same)
 
@@ -182,27 +173,6 @@ ids_held n =
     ∙ (λ k. map-map id_in transition_holder (net_transitions n) k ++ (map-append id_in rs (us ++ olds)
     ∙ (λ l. map-map id_in place_reference_holder (net_place_references n) l ++ (map-append id_in us olds
     ∙ (λ m. map-map id_in transition_reference_holder (net_transition_references n) m ++ map-map id_in arc_holder (net_arcs n) m)) l)) k)) j)) i)))
-
--- ---- a net of one page
-
--- what a net of one page without subpages has
-in_only_page : {A : Type 0} (own : layer.Page-F (List A) → List A) (w : Net) (q : Page) → w.pages ≡ q ∷ [] → (out-Page q).pages ≡ [] → in_pages own w ≡ own (own_layer own q)
-in_only_page own w q only none =
-    ap (flat_map (in_page own)) only ∙ append-nil (in_page own q) ∙ page_law own q ∙ ap (λ ps. own (own_layer own q) ++ flat_map (in_page own) ps) none ∙ append-nil (own (own_layer own q))
-
--- the page of which alone there is something that is the same as this one
-one_page : (qs : List Page) (x : Page) → map page_without_offsets qs ≡ x ∷ [] → (q : Page) × (qs ≡ q ∷ []) × (page_without_offsets q ≡ x)
-one_page [] x is = absurd cc
-one_page (q ∷ []) x is = (q, refl, cc)
-one_page (q ∷ r ∷ qs) x is = absurd cc
-
-none_mapped : {A B : Type 0} (f : A → B) (xs : List A) → map f xs ≡ [] → xs ≡ []
-none_mapped f [] is = refl
-none_mapped f (x ∷ xs) is = absurd cc
-
-declared_bare : (ls : List (Label (List Declaration))) → declared_by (map declarations_without_offsets ls) ≡ map declaration_without_offsets (declared_by ls)
-declared_bare [] = refl
-declared_bare (l ∷ ls) = ap (λ ds. map declaration_without_offsets l.value ++ ds) (declared_bare ls) ∙ sym (map-append declaration_without_offsets l.value (declared_by ls))
 
 -- ---- sides
 
@@ -306,16 +276,6 @@ rewired_ids n [] (b ∷ bs) z = absurd z
 rewired_ids n (a ∷ olds) [] z = absurd z
 rewired_ids n (a ∷ olds) (b ∷ bs) z = λ i. (ap (λ x. x.id) z.0.is i) ∷ rewired_ids n olds bs z.1 i
 
-rewired_from : (n : Net) (olds bs : List Arc) (b : Arc) → AllZip (IsRewired n) olds bs → Contains bs b → (a : Arc) × Contains olds a × IsRewired n a b
-rewired_from n [] [] b z c = absurd (contains_nil b c)
-rewired_from n [] (y ∷ bs) b z c = absurd z
-rewired_from n (x ∷ olds) [] b z c = absurd z
-rewired_from n (x ∷ olds) (y ∷ bs) b z c = step (contains_cases y bs b c) (rewired_from n olds bs b z.1)
-  where
-    step : (y ≡ b) ⊎ Contains bs b → (Contains bs b → (o : Arc) × Contains olds o × IsRewired n o b) → (a : Arc) × Contains (x ∷ olds) a × IsRewired n a b
-    step (inl here) more = (x, contains_first x olds, subst (IsRewired n x) here z.0)
-    step (inr there) more = let found = more there in (found.0, contains_next x olds found.0 found.1, found.2)
-
 -- the id of the first page is among those of all
 first_page : (ps : List Page) (page : Page) → slice_get ps 0 ≡ Some page → IsThinned ((out-Page page).id ∷ []) (ids_in (flat_map (in_page (λ p. page_holder p ∷ [])) ps))
 first_page [] page is = absurd cc
@@ -334,69 +294,16 @@ record HasTwoSides (w : Net) (a : Arc) : Type 0 where
   differ : from ≡ to → ⊥
 
 module _ (n flat w : Net) (sound : HasSound n) (p : IsFlattened n flat) (alike : IsSameNet w flat) where
-  same : net_without_offsets w ≡ net_without_offsets (on_one_page n p.page p.arcs)
-  same = alike ∙ ap net_without_offsets p.is
-
-  abbrev only_layer : layer.Page-F Page
-  only_layer = record {
-    id = (out-Page p.page).id;
-    head = (out-Page p.page).head;
-    declarations = [];
-    places = net_places n;
-    transitions = net_transitions n;
-    place_refs = [];
-    transition_refs = [];
-    arcs = p.arcs;
-    pages = [];
-    at = 0;
-  }
-
-  whole : (q : Page) × (w.pages ≡ q ∷ []) × (page_without_offsets q ≡ page_without_offsets (roll-Page only_layer))
-  whole = one_page w.pages (page_without_offsets (roll-Page only_layer)) (ap (λ m. m.pages) same)
-
-  abbrev only : layer.Page-F Page
-  only = out-Page whole.0
-
-  layers : bare_page_layer only ≡ bare_page_layer only_layer
-  layers =
-      sym (out-roll-Page (bare_page_layer only)) ∙ ap out-Page (sym (bare_page_is whole.0) ∙ whole.2 ∙ bare_page_is (roll-Page only_layer))
-      ∙ out-roll-Page (bare_page_layer (out-Page (roll-Page only_layer))) ∙ ap bare_page_layer (out-roll-Page only_layer)
-
-  in_w : {A : Type 0} (own : layer.Page-F (List A) → List A) → in_pages own w ≡ own (own_layer own whole.0)
-  in_w own = in_only_page own w whole.0 whole.1 (none_mapped page_without_offsets only.pages (ap (λ l. l.pages) layers))
-
-  places_alike : map place_without_offsets (net_places w) ≡ map place_without_offsets (net_places n)
-  places_alike = ap (map place_without_offsets) (in_w (λ l. l.places)) ∙ ap (λ l. l.places) layers
-
-  transitions_alike : map transition_without_offsets (net_transitions w) ≡ map transition_without_offsets (net_transitions n)
-  transitions_alike = ap (map transition_without_offsets) (in_w (λ l. l.transitions)) ∙ ap (λ l. l.transitions) layers
-
-  arcs_alike : map arc_without_offsets (net_arcs w) ≡ map arc_without_offsets p.arcs
-  arcs_alike = ap (map arc_without_offsets) (in_w (λ l. l.arcs)) ∙ ap (λ l. l.arcs) layers
-
-  no_place_references : net_place_references w ≡ []
-  no_place_references = in_w (λ l. l.place_refs) ∙ none_mapped reference_without_offsets only.place_refs (ap (λ l. l.place_refs) layers)
-
-  no_transition_references : net_transition_references w ≡ []
-  no_transition_references = in_w (λ l. l.transition_refs) ∙ none_mapped reference_without_offsets only.transition_refs (ap (λ l. l.transition_refs) layers)
-
-  declared_alike : map declaration_without_offsets (net_declarations w) ≡ map declaration_without_offsets (net_declarations n)
-  declared_alike =
-      ap (λ ds. map declaration_without_offsets (declared_by w.declarations ++ ds))
-      (in_w (λ l. declared_by l.declarations) ∙ ap declared_by (none_mapped declarations_without_offsets only.declarations (ap (λ l. l.declarations) layers)))
-      ∙ ap (map declaration_without_offsets) (append-nil (declared_by w.declarations))
-      ∙ sym (declared_bare w.declarations) ∙ ap (λ m. declared_by m.declarations) same ∙ declared_bare (in_one (net_declarations n)) ∙ ap (map declaration_without_offsets) (one_declared (net_declarations n))
-
   -- the ids are some of those of the net
   ids_w : ids_in (holders_of w) ≡ ids_of n.id ((out-Page p.page).id ∷ []) (net_declarations n) (net_places n) (net_transitions n) [] [] (net_arcs n)
   ids_w =
       ids_held w
-      ∙ (λ i. ap (λ m. m.id) same i ∷ ((ap ids_in (in_w (λ l. page_holder l ∷ [])) ∙ ap (λ l. l.id ∷ []) layers) i
-      ++ ((sym (all_declared_blind (net_declarations w)) ∙ ap (flat_map declared_ids) declared_alike ∙ all_declared_blind (net_declarations n)) i
-      ++ (told_alike (λ x. x.id) place_without_offsets (λ x. refl) (net_places w) (net_places n) places_alike i
-      ++ (told_alike (λ x. x.id) transition_without_offsets (λ x. refl) (net_transitions w) (net_transitions n) transitions_alike i
-      ++ (map (λ r. r.id) (no_place_references i) ++ (map (λ r. r.id) (no_transition_references i)
-      ++ (told_alike (λ x. x.id) arc_without_offsets (λ x. refl) (net_arcs w) p.arcs arcs_alike ∙ rewired_ids n (net_arcs n) p.arcs p.rewired) i)))))))
+      ∙ (λ i. ap (λ m. m.id) (is_one_page n flat w p alike) i ∷ ((ap ids_in (in_w n flat w p alike (λ l. page_holder l ∷ [])) ∙ ap (λ l. l.id ∷ []) (layers n flat w p alike)) i
+      ++ ((sym (all_declared_blind (net_declarations w)) ∙ ap (flat_map declared_ids) (declared_alike n flat w p alike) ∙ all_declared_blind (net_declarations n)) i
+      ++ (told_alike (λ x. x.id) place_without_offsets (λ x. refl) (net_places w) (net_places n) (places_alike n flat w p alike) i
+      ++ (told_alike (λ x. x.id) transition_without_offsets (λ x. refl) (net_transitions w) (net_transitions n) (transitions_alike n flat w p alike) i
+      ++ (map (λ r. r.id) (no_place_references n flat w p alike i) ++ (map (λ r. r.id) (no_transition_references n flat w p alike i)
+      ++ (told_alike (λ x. x.id) arc_without_offsets (λ x. refl) (net_arcs w) p.arcs (arcs_alike n flat w p alike) ∙ rewired_ids n (net_arcs n) p.arcs p.rewired) i)))))))
 
   ids_within : IsThinned (ids_of n.id ((out-Page p.page).id ∷ []) (net_declarations n) (net_places n) (net_transitions n) [] [] (net_arcs n))
       (ids_of n.id (page_ids n) (net_declarations n) (net_places n) (net_transitions n) (net_place_references n) (net_transition_references n) (net_arcs n))
@@ -426,31 +333,30 @@ module _ (n flat w : Net) (sound : HasSound n) (p : IsFlattened n flat) (alike :
   end_there : (id : List ℕ) (e : End) → id_at n e ≡ Some id → IsOnSide w id (end_side e)
   end_there id (place i) is =
       let found = mapped_some (λ x. x.id) (slice_get (net_places n) i) id is in
-      let there = alike_contains place_without_offsets (net_places n) (net_places w) found.0 (sym places_alike) (contains_at (net_places n) i found.0 found.1) in
+      let there = alike_contains place_without_offsets (net_places n) (net_places w) found.0 (sym (places_alike n flat w p alike)) (contains_at (net_places n) i found.0 found.1) in
       let h = place_holder there.0 in
       (h, named w unique_w h id (place_stands w there.0 there.1) (ap (λ x. x.id) (sym there.2) ∙ found.2), refl)
   end_there id (transition i) is =
       let found = mapped_some (λ x. x.id) (slice_get (net_transitions n) i) id is in
-      let there = alike_contains transition_without_offsets (net_transitions n) (net_transitions w) found.0 (sym transitions_alike) (contains_at (net_transitions n) i found.0 found.1) in
+      let there = alike_contains transition_without_offsets (net_transitions n) (net_transitions w) found.0 (sym (transitions_alike n flat w p alike)) (contains_at (net_transitions n) i found.0 found.1) in
       let h = transition_holder there.0 in
       (h, named w unique_w h id (transition_stands w there.0 there.1) (ap (λ x. x.id) (sym there.2) ∙ found.2), refl)
 
   two_sides : (c : Arc) → Contains (net_arcs w) c → HasTwoSides w c
   two_sides c has =
-      let there = alike_contains arc_without_offsets (net_arcs w) p.arcs c arcs_alike has in
-      let from = rewired_from n (net_arcs n) p.arcs there.0 p.rewired there.1 in
-      let r = from.2 in
+      let from = arc_from n flat w p alike c has in
+      let r = from.2.rewired in
       record {
         from = end_side r.from.0;
         to = end_side r.to.0;
-        source = subst (λ id. IsOnSide w id (end_side r.from.0)) (sym (ap (λ x. x.source) there.2 ∙ ap (λ x. x.source) r.is)) (end_there r.source r.from.0 r.from.2);
-        target = subst (λ id. IsOnSide w id (end_side r.to.0)) (sym (ap (λ x. x.target) there.2 ∙ ap (λ x. x.target) r.is)) (end_there r.target r.to.0 r.to.2);
+        source = subst (λ id. IsOnSide w id (end_side r.from.0)) (sym (ap (λ x. x.source) from.2.alike ∙ ap (λ x. x.source) r.is)) (end_there r.source r.from.0 r.from.2);
+        target = subst (λ id. IsOnSide w id (end_side r.to.0)) (sym (ap (λ x. x.target) from.2.alike ∙ ap (λ x. x.target) r.is)) (end_there r.target r.to.0 r.to.2);
         differ = apart_ends n sound from.0 (end_side r.from.0) (end_side r.to.0) from.1 (reached_side n sound from.0.source r.from.0 r.from.1) (reached_side n sound from.0.target r.to.0 r.to.1);
       }
 
   no_reference : (r : Reference) → IsReference w r → ⊥
-  no_reference r (inl c) = contains_nil r (subst (λ l. Contains l r) no_place_references c)
-  no_reference r (inr c) = contains_nil r (subst (λ l. Contains l r) no_transition_references c)
+  no_reference r (inl c) = contains_nil r (subst (λ l. Contains l r) (no_place_references n flat w p alike) c)
+  no_reference r (inr c) = contains_nil r (subst (λ l. Contains l r) (no_transition_references n flat w p alike) c)
 
   no_unknown : (f : Fault) → IsUnknownEnd w f → ⊥
   no_unknown f (links.source _ a c none is) = let sides = two_sides a c in none sides.from sides.source

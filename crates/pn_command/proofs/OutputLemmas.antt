@@ -1,17 +1,19 @@
 -- A command gives one output for a net.
 use Rattle.std.proofs.Common.{◌≡◌, ℕ, List, [], ◌∷◌, ◌++◌, map, length, codes, refl, sym, ap, ◌∙◌, subst, append-nil}
-use Rattle.std.specs.List.{Contains, flat_map}
+use Rattle.std.specs.List.{flat_map}
 use Rattle.std.proofs.lemmas.List.{length-map}
 use Rattle.pn_bag.proofs.Canonical.{same_entries}
 use Rattle.pn_bag.specs.Copies.{total_of}
-use Rattle.pn_checks.proofs.MarkLemmas.{initial_once}
+use Rattle.pn_checks.proofs.FlatLemmas.{flat_declarations, one_declared}
+use Rattle.pn_checks.proofs.KeptLemmas.{accepted_links, accepted_sorts}
+use Rattle.pn_checks.proofs.MarkLemmas.{initial_once, says_once}
 use Rattle.pn_checks.specs.Initial.{IsInitial}
-use Rattle.pn_facts.proofs.Contained.{contains_first}
-use Rattle.pn_faults.specs.declared.fault.Fault.{Fault}
+use Rattle.pn_eval.proofs.OnceLemmas.{value_once}
 use Rattle.pn_net.proofs.OrderLemmas.{same_tokens}
-use Rattle.pn_net.specs.Documents.{HasNoShapeFault, HasSoundLinks, IsWellTyped, links, shape}
 use Rattle.pn_net.specs.Flattening.{IsFlattened, arc_of_flat, net_of_flat, page_of_objects}
+use Rattle.pn_net.specs.Objects.{declared_by}
 use Rattle.pn_net.specs.Orders.{tokens_total}
+use Rattle.pn_net.specs.Typing.{declared}
 use Rattle.pn_net.specs.declared.flat.Flat.{Flat}
 use Rattle.pn_net.specs.declared.token.Token.{Token}
 use Rattle.pn_objects.specs.declared.net.Net.{Net}
@@ -21,29 +23,17 @@ use Rattle.pn_objects.specs.declared.net.Page.TheOpen as layer
 use Rattle.pn_objects.specs.declared.net.Page.TheViews.{out-Page, out-roll-Page}
 use Rattle.pn_report.specs.Lines.{count_text}
 use Rattle.pn_report.specs.Summaries.{kind_word, sizes_text, summary_line}
-use Rattle.pn_shape.specs.Faults.{shape_faults}
+use Rattle.pn_sorts.specs.Standing.{IsFaultless, Stands}
 use Rattle.pn_spelling.specs.ReadNets.{net_of}
 use Rattle.pn_spelling.specs.WriteNets.{tree_of_net}
 use Rattle.pn_tree.specs.declared.element.Element.{Element}
 use Rattle.pn_command.specs.Outputs.{GivesOutput, IsOutput, IsSummed}
-use Rattle.pn_command.specs.Verdict.{IsAcceptedPlain}
+use Rattle.pn_checks.specs.Verdicts.{IsAccepted}
 use Rattle.pn_command.specs.declared.outputs.Output.{Output}
 use Rattle.pn_command.specs.declared.outputs.Output.TheVariants as outputs
 use Rattle.pn_command.specs.declared.words.Asked.{Asked}
 use Rattle.pn_command.specs.declared.words.Asked.TheVariants.{Check, Flatten}
-use Rattle.pn_command.proofs.UniqueLemmas.{one_flat_net}
-
--- ---- a tree in which no fault stands
-
-pub no_shape_fault : (tree : Element) → IsWellTyped tree → HasNoShapeFault tree
-no_shape_fault tree typed = go (shape_faults tree) refl
-  where
-    go : (fs : List Fault) → shape_faults tree ≡ fs → shape_faults tree ≡ []
-    go [] is = is
-    go (f ∷ fs) is = absurd (typed f (shape f (subst (λ l. Contains l f) (sym is) (contains_first f fs))))
-
-pub sound_links : (tree : Element) → IsWellTyped tree → HasSoundLinks tree
-sound_links tree typed = record { spells = no_shape_fault tree typed; links = λ f stands. typed f (links f (no_shape_fault tree typed) stands) }
+use Rattle.pn_checks.proofs.UniqueLemmas.{one_flat_net}
 
 -- ---- what one net tells of a flat net
 
@@ -76,6 +66,9 @@ module _ (f g : Flat) (same : net_of_flat f ≡ net_of_flat g) where
   transitions_same : f.transitions ≡ g.transitions
   transitions_same = sym (page_tells f (λ p. p.transitions)) ∙ ap (of_pages (λ p. p.transitions)) same ∙ page_tells g (λ p. p.transitions)
 
+  declared_same : f.declarations ≡ g.declarations
+  declared_same = sym (one_declared f.declarations) ∙ ap (λ n. declared_by n.declarations) same ∙ one_declared g.declarations
+
   arcs_same : length f.arcs ≡ length g.arcs
   arcs_same =
       sym (length-map f.arcs (arc_of_flat f))
@@ -91,25 +84,30 @@ module _ (f g : Flat) (same : net_of_flat f ≡ net_of_flat g) where
 
 -- ---- the initial marking is one
 
-one_marking : (f g : Flat) (m k : List (Token × ℕ)) → f.places ≡ g.places → IsInitial f m → IsInitial g k → m ≡ k
-one_marking = initial_once (same_entries tokens_total (λ a b. (same_tokens a b).0))
+one_marking : (f g : Flat) (m k : List (Token × ℕ)) → IsFaultless f.declarations → f.places ≡ g.places → f.declarations ≡ g.declarations → IsInitial f m → IsInitial g k → m ≡ k
+one_marking f g m k sound = initial_once (same_entries tokens_total (λ a b. (same_tokens a b).0)) f g m k (says_once f.declarations (λ e o p. value_once f.declarations [] [] sound e o p))
 
 -- ---- what a command gives
 
-summed_once : (f g : Flat) (x y : List ℕ) → net_of_flat f ≡ net_of_flat g → IsSummed f x → IsSummed g y → x ≡ y
-summed_once f g x y same p q =
-    let marking = one_marking f g p.initial q.initial (places_same f g same) p.is_initial q.is_initial in
+summed_once : (f g : Flat) (x y : List ℕ) → IsFaultless f.declarations → net_of_flat f ≡ net_of_flat g → IsSummed f x → IsSummed g y → x ≡ y
+summed_once f g x y sound same p q =
+    let marking = one_marking f g p.initial q.initial sound (places_same f g same) (declared_same f g same) p.is_initial q.is_initial in
     p.is ∙ summed_same f g same p.initial ∙ ap (summary_line g) marking ∙ sym q.is
 
 -- what is summed up has one line
-pub one_sum : (f : Flat) (x y : List ℕ) → IsSummed f x → IsSummed f y → x ≡ y
-one_sum f x y = summed_once f f x y refl
+pub one_sum : (f : Flat) (x y : List ℕ) → IsFaultless f.declarations → IsSummed f x → IsSummed f y → x ≡ y
+one_sum f x y sound = summed_once f f x y sound refl
 
-pub one_output : (asked : Asked) (tree : Element) (x y : List ℕ) → IsAcceptedPlain tree → IsOutput asked (net_of tree) x → IsOutput asked (net_of tree) y → x ≡ y
-one_output Check tree x y taken p q =
-    summed_once p.flat q.flat x y (one_flat_net (net_of tree) (sound_links tree taken.well_typed).links (net_of_flat p.flat) (net_of_flat q.flat) p.is_flat q.is_flat) p.summed q.summed
-one_output Flatten tree x y taken p q =
-    p.is ∙ ap (λ n. canonical_text (tree_of_net n)) (one_flat_net (net_of tree) (sound_links tree taken.well_typed).links p.flat q.flat p.is_flat q.is_flat) ∙ sym q.is
+-- the declarations of a tree in which no fault stands have none
+declared_sound : (tree : Element) (f : Flat) → IsAccepted tree → IsFlattened (net_of tree) (net_of_flat f) → IsFaultless f.declarations
+declared_sound tree f accepted flat g stands =
+    accepted_sorts tree accepted g (declared g (subst (λ ds. Stands ds g) (flat_declarations (net_of tree) f flat) stands))
+
+pub one_output : (asked : Asked) (tree : Element) (x y : List ℕ) → IsAccepted tree → IsOutput asked (net_of tree) x → IsOutput asked (net_of tree) y → x ≡ y
+one_output Check tree x y accepted p q =
+    summed_once p.flat q.flat x y (declared_sound tree p.flat accepted p.is_flat) (one_flat_net (net_of tree) (accepted_links tree accepted).links (net_of_flat p.flat) (net_of_flat q.flat) p.is_flat q.is_flat) p.summed q.summed
+one_output Flatten tree x y accepted p q =
+    p.is ∙ ap (λ n. canonical_text (tree_of_net n)) (one_flat_net (net_of tree) (accepted_links tree accepted).links p.flat q.flat p.is_flat q.is_flat) ∙ sym q.is
 
 -- what is made is what a command gives
 

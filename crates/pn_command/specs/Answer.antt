@@ -23,7 +23,8 @@ use Rattle.pn_command.specs.declared.due.Due.TheVariants as due
 use Rattle.pn_command.specs.Words.{asked_of}
 use Rattle.pn_command.specs.Lines.{line_text, status_of}
 use Rattle.pn_command.specs.Outputs.{HasText, IsOutput, IsOver}
-use Rattle.pn_command.specs.Verdict.{IsNotYet, IsAcceptedPlain, IsToldOf}
+use Rattle.pn_checks.specs.Linked.{IsLeastInTree}
+use Rattle.pn_checks.specs.Verdicts.{IsAccepted}
 
 -- how a call ends, and what it writes
 pub record Answer : Type 0 where
@@ -64,11 +65,10 @@ pub data IsDueForNet (asked : Asked) (n : Net) (a : Answer) : Type 0 where
   output_too_long : (text : List ℕ) → IsOutput asked n text → IsOver asked text → a ≡ limit_answer limits.Output → IsDueForNet asked n a
   given : (text : List ℕ) → IsOutput asked n text → (IsOver asked text → ⊥) → a ≡ output_answer text → IsDueForNet asked n a
 
--- what is due for a command and the tree of a document: the least fault that stands in it, where one does, else what the command gives for its net. Nets of other kinds than place/transition nets are not taken yet, and of their documents only faults of shape, ids and links are told
+-- what is due for a command and the tree of a document: the least fault that stands in it, where one does, else what the command gives for its net
 pub data IsDueForTree (asked : Asked) (tree : Element) (a : Answer) : Type 0 where
-  faulty : (f : Fault) → IsToldOf tree f → a ≡ refusal_answer (refusals.Fault f) → IsDueForTree asked tree a
-  not_yet : IsNotYet tree → a ≡ refusal_answer refusals.NotYet → IsDueForTree asked tree a
-  for_net : IsAcceptedPlain tree → IsDueForNet asked (net_of tree) a → IsDueForTree asked tree a
+  faulty : (f : Fault) → IsLeastInTree tree f → a ≡ refusal_answer (refusals.Fault f) → IsDueForTree asked tree a
+  for_net : IsAccepted tree → IsDueForNet asked (net_of tree) a → IsDueForTree asked tree a
 
 -- what is due for a command and the bytes of the input, a case for each kind of input: one that is too long, no document, a document
 pub data IsDueFor (asked : Asked) (bytes : List ℕ) (a : Answer) : Type 0 where

@@ -27,7 +27,6 @@ limit_line limits.Output = longer_line (codes "output")
 abbrev pub refusal_line : Refusal → List ℕ
 refusal_line (refusals.Broken k) = count_text (codes "pnml: byte ") k ++ codes ": broken\n"
 refusal_line (refusals.Fault f) = fault_line f
-refusal_line refusals.NotYet = codes "pnml: not yet\n"
 
 abbrev pub line_text : Line → List ℕ
 line_text lines.Usage = usage_line

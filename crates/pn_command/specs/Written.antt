@@ -5,11 +5,11 @@ use Rattle.pn_objects.specs.Offsets.{IsSameNet}
 use Rattle.pn_objects.specs.declared.net.Net.{Net}
 use Rattle.pn_spelling.specs.ReadNets.{net_of}
 use Rattle.pn_tree.specs.declared.element.Element.{Element}
-use Rattle.pn_command.specs.Verdict.{IsAcceptedPlain}
+use Rattle.pn_checks.specs.Verdicts.{IsAccepted}
 
--- the bytes are a document of a tree that is taken, whose net is the same net as this one
+-- the bytes are a document of a tree that is accepted, whose net is the same net as this one
 pub record SpellsNet (n : Net) (bytes : List ℕ) : Type 0 where
   pub tree : Element
   pub is_document : IsDocument tree bytes
-  pub taken : IsAcceptedPlain tree
+  pub accepted : IsAccepted tree
   pub same : IsSameNet (net_of tree) n

@@ -33,8 +33,6 @@ pub(crate) enum Refusal {
     Broken(u64),
     /// It is a document with a fault.
     Fault(Fault),
-    /// It is a document of a net that is not taken yet.
-    NotYet,
 }
 
 /// A line on the standard error.
@@ -101,7 +99,6 @@ fn put_refusal<K: Sink>(sink: &mut K, refusal: &Refusal) -> Result<(), Failed>
     match refusal {
         Refusal::Broken(at) => put_broken(sink, *at),
         Refusal::Fault(fault) => put_fault(fault, sink),
-        Refusal::NotYet => put_text(sink, "pnml: not yet\n"),
     }
 }
 

@@ -7,6 +7,7 @@ ghost use Rattle.pn_objects.specs.declared.net.Net.{Net};
 ghost use Rattle.pn_outside.specs.Cause.{CountsFault, HasCause};
 ghost use Rattle.pn_outside.specs.Taking.{Puts};
 ghost use Rattle.pn_spelling.specs.WriteNets.{tree_of_net};
+ghost use Rattle.pn_sorts.specs.Standing.{IsFaultless};
 ghost use Rattle.pn_tree.specs.declared.element.Element.{Element};
 ghost use Rattle.pn_command.specs.Outputs.{GivesOutput, HasText, IsLong, IsSummed};
 
@@ -73,12 +74,20 @@ pub(crate) fn is_long(output: &Output) -> bool
     }
 }
 
+/// The declarations of a checked net have no fault.
+fn has_sound_declarations(checked: &Checked)
+    ensures { IsFaultless checked.now.declarations }
+{
+    let _decls = checked.typed().decls();
+}
+
 /// Puts the line that sums a net up.
 fn put_summed<K: Sink>(sink: &mut K, checked: &Checked) -> Result<(), Failed>
     ensures puts { (text : List ℕ) → IsSummed checked.now text → Puts K.taken K.number result sink.old sink.new text }
     ensures cause { HasCause (K.faults sink.old) (K.faults sink.new) result }
     ensures counted { CountsFault (K.faults sink.old) (K.faults sink.new) result }
 {
+    has_sound_declarations(checked);
     put_summary(checked.typed(), checked.initial(), sink)
 }
 

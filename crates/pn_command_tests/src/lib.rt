@@ -2,6 +2,8 @@
 #![tactic(auto)]
 
 #[cfg(test)]
+mod coloured;
+#[cfg(test)]
 mod links;
 #[cfg(test)]
 mod tests;

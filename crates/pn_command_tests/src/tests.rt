@@ -15,8 +15,6 @@ const DECLARATION: &str = "<?xml version=\"1.0\" encoding=\"UTF-8\"?>\n";
 const USAGE: &str =
     "pnml: usage: check, flatten, step MODE (one or more), modes T, unfold, trial N\n";
 
-const NOT_YET: &str = "pnml: not yet\n";
-
 /// A call: its words, a document that comes in pieces of `cut` bytes and whose read number
 /// `failing` fails, and so much room on the standard output; then how it ends, and what it writes.
 #[derive(Clone, Copy)]
@@ -127,7 +125,7 @@ fn expect(
         document,
         cut: 1000000,
         failing: 0,
-        room: 1000,
+        room: 10000,
         status,
         out,
         err,
@@ -312,7 +310,11 @@ fn a_page_without_parts_is_an_empty_element(rt: HostRuntime) -> Result<(), Fail>
 }
 
 /// That a document in one line is what `flatten` writes for it, but for the declaration.
-fn expect_kept(rt: &impl Abort, alloc: Global, document: &str) -> Result<(), AllocError> {
+pub(crate) fn expect_kept(
+    rt: &impl Abort,
+    alloc: Global,
+    document: &str,
+) -> Result<(), AllocError> {
     let mut text = String::from_str(alloc, DECLARATION)?;
     text.push_str(document)?;
     text.push_str("\n")?;
@@ -488,7 +490,7 @@ fn other_spellings_are_the_same_net(rt: HostRuntime) -> Result<(), Fail> {
 }
 
 /// A document of a net of this kind, with this in it before its page ends.
-fn net_of(alloc: Global, kind: &str, inside: &str) -> Result<String, AllocError> {
+pub(crate) fn net_of(alloc: Global, kind: &str, inside: &str) -> Result<String, AllocError> {
     format!(in alloc;
         "<pnml xmlns=\"http://www.pnml.org/version-2009/grammar/pnml\"><net id=\"n\" type=\"http://www.pnml.org/version-2009/grammar/{kind}\">{inside}</page></net></pnml>"
     )
@@ -518,48 +520,6 @@ fn the_deepest_document_has_an_unknown_element(rt: HostRuntime) -> Result<(), Fa
 fn an_input_without_its_end_is_broken(rt: HostRuntime) -> Result<(), Fail> {
     expect_broken(&rt, rt.alloc(), b"", 0)?;
     expect_broken(&rt, rt.alloc(), &TRANSFER.as_bytes()[..332], 332)?;
-    Ok(())
-}
-
-/// That a net of the kind, with this in it, is refused as the row tells: kind, line, what is in it.
-fn is_refused_net(rt: &impl Abort, alloc: Global, row: &str) -> Result<(), Fail> {
-    let (kind, rest) = row.split_once(" | ").ok_or("no kind")?;
-    let (told, inside) = rest.split_once(" | ").ok_or("no line")?;
-    let document = net_of(alloc, kind, inside)?;
-    let line = format!(in alloc; "pnml: {told}\n")?;
-    Ok(expect_refused(rt, alloc, document.as_str().as_bytes(), line.as_str())?)
-}
-
-/// Nets of all kinds that are refused: where no fault of shape, ids or links stands in one that is no
-/// place/transition net, it is not taken yet, whatever sorts and terms say.
-const REFUSED: &str = "\
-ptnet | byte 201: wrong end: u | <page id=\"g\"><place id=\"a\"/><place id=\"b\"/><referencePlace id=\"r\" ref=\"b\"/><arc id=\"u\" source=\"a\" target=\"r\"/>
-ptnet | byte 139: reference cycle: r | <page id=\"g\"><referencePlace id=\"r\" ref=\"s\"/><referencePlace id=\"s\" ref=\"r\"/>
-symmetricnet | byte 146: duplicate id: g | <page id=\"g\"><transition id=\"g\"/>
-symmetricnet | byte 146: missing element: type | <page id=\"g\"><place id=\"p\"/>
-symmetricnet | not yet | <page id=\"g\">
-highlevelnet | not yet | <page id=\"g\">
-symmetricnet | not yet | <declaration><structure><declarations><namedsort id=\"p\"><productsort><usersort declaration=\"c\"/><usersort declaration=\"c\"/></productsort></namedsort><namedsort id=\"c\"><cyclicenumeration><feconstant id=\"c1\"/></cyclicenumeration></namedsort></declarations></structure></declaration><page id=\"g\">
-symmetricnet | not yet | <declaration><structure><declarations><namedsort id=\"s\"><usersort declaration=\"t\"/></namedsort><namedsort id=\"t\"><usersort declaration=\"s\"/></namedsort></declarations></structure></declaration><page id=\"g\">
-symmetricnet | not yet | <declaration><structure><declarations><namedsort id=\"f\" name=\"f\"><finiteenumeration><feconstant id=\"f1\" name=\"1\"/></finiteenumeration></namedsort><variabledecl id=\"x\" name=\"x\"><usersort declaration=\"f\"/></variabledecl></declarations></structure></declaration><page id=\"g\"><transition id=\"t\"><condition><structure><equality><subterm><successor><subterm><variable refvariable=\"x\"/></subterm></successor></subterm><subterm><variable refvariable=\"x\"/></subterm></equality></structure></condition></transition>
-symmetricnet | not yet | <page id=\"g\"><place id=\"p\"><type><structure><finiteintrange start=\"1\" end=\"1048576\"/></structure></type><hlinitialMarking><structure><all><finiteintrange start=\"1\" end=\"1048576\"/></all></structure></hlinitialMarking></place>
-symmetricnet | not yet | <page id=\"g\"><place id=\"p\"><type><structure><finiteintrange start=\"1\" end=\"1048577\"/></structure></type><hlinitialMarking><structure><all><finiteintrange start=\"1\" end=\"1048577\"/></all></structure></hlinitialMarking></place>";
-
-#[test]
-fn other_nets_are_refused(rt: HostRuntime) -> Result<(), Fail> {
-    for row in REFUSED.lines() {
-        is_refused_net(&rt, rt.alloc(), row)?;
-    }
-    Ok(())
-}
-
-/// Philosophers at a table of five, with a fork between any two.
-const PHILOSOPHERS: &str =
-    "<pnml xmlns=\"http://www.pnml.org/version-2009/grammar/pnml\"><net id=\"philosophers\" type=\"http://www.pnml.org/version-2009/grammar/symmetricnet\"><declaration><structure><declarations><namedsort id=\"P\" name=\"P\"><cyclicenumeration><feconstant id=\"c1\" name=\"c1\"/><feconstant id=\"c2\" name=\"c2\"/><feconstant id=\"c3\" name=\"c3\"/><feconstant id=\"c4\" name=\"c4\"/><feconstant id=\"c5\" name=\"c5\"/></cyclicenumeration></namedsort><variabledecl id=\"x\" name=\"x\"><usersort declaration=\"P\"/></variabledecl></declarations></structure></declaration><page id=\"page\"><place id=\"think\"><type><structure><usersort declaration=\"P\"/></structure></type><hlinitialMarking><structure><all><usersort declaration=\"P\"/></all></structure></hlinitialMarking></place><place id=\"eat\"><type><structure><usersort declaration=\"P\"/></structure></type></place><place id=\"fork\"><type><structure><usersort declaration=\"P\"/></structure></type><hlinitialMarking><structure><all><usersort declaration=\"P\"/></all></structure></hlinitialMarking></place><transition id=\"take\"/><transition id=\"release\"/><arc id=\"a1\" source=\"think\" target=\"take\"><hlinscription><structure><numberof><subterm><numberconstant value=\"1\"><positive/></numberconstant></subterm><subterm><variable refvariable=\"x\"/></subterm></numberof></structure></hlinscription></arc><arc id=\"a2\" source=\"fork\" target=\"take\"><hlinscription><structure><add><subterm><numberof><subterm><numberconstant value=\"1\"><positive/></numberconstant></subterm><subterm><variable refvariable=\"x\"/></subterm></numberof></subterm><subterm><numberof><subterm><numberconstant value=\"1\"><positive/></numberconstant></subterm><subterm><successor><subterm><variable refvariable=\"x\"/></subterm></successor></subterm></numberof></subterm></add></structure></hlinscription></arc><arc id=\"a3\" source=\"take\" target=\"eat\"><hlinscription><structure><numberof><subterm><numberconstant value=\"1\"><positive/></numberconstant></subterm><subterm><variable refvariable=\"x\"/></subterm></numberof></structure></hlinscription></arc><arc id=\"a4\" source=\"eat\" target=\"release\"><hlinscription><structure><numberof><subterm><numberconstant value=\"1\"><positive/></numberconstant></subterm><subterm><variable refvariable=\"x\"/></subterm></numberof></structure></hlinscription></arc><arc id=\"a5\" source=\"release\" target=\"think\"><hlinscription><structure><numberof><subterm><numberconstant value=\"1\"><positive/></numberconstant></subterm><subterm><variable refvariable=\"x\"/></subterm></numberof></structure></hlinscription></arc><arc id=\"a6\" source=\"release\" target=\"fork\"><hlinscription><structure><add><subterm><numberof><subterm><numberconstant value=\"1\"><positive/></numberconstant></subterm><subterm><variable refvariable=\"x\"/></subterm></numberof></subterm><subterm><numberof><subterm><numberconstant value=\"1\"><positive/></numberconstant></subterm><subterm><successor><subterm><variable refvariable=\"x\"/></subterm></successor></subterm></numberof></subterm></add></structure></hlinscription></arc></page></net></pnml>";
-
-#[test]
-fn philosophers_are_not_yet(rt: HostRuntime) -> Result<(), Fail> {
-    expect_refused(&rt, rt.alloc(), PHILOSOPHERS.as_bytes(), NOT_YET)?;
     Ok(())
 }
 

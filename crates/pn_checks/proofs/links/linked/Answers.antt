@@ -4,6 +4,7 @@ use Rattle.pn_faults.specs.declared.fault.Refusal.TheVariants as Refusal
 use Rattle.pn_net.specs.Documents.{links}
 use Rattle.pn_net.specs.Links.{StandsInLinks}
 use Rattle.pn_pages.specs.Linking.{AreApart}
+use Rattle.pn_checks.specs.Verdicts.{in_tree}
 use Rattle.pn_checks.proofs.LinkLemmas.{link_told, linked_by, page_there, shape_told, shape_unsound}
 use Rattle.pn_checks.proofs.links.linked.Goals as goal
 
@@ -20,7 +21,7 @@ pub returns-in-Ok-clause-early : goal.returns-in-Ok-clause-early
 returns-in-Ok-clause-early c f is sound = sound.links f (subst (λ m. StandsInLinks m f) c.in-Ok.ensures.net (c.flatten.ensures.stands f is))
 
 pub returns-in-Ok-clause-stands : goal.returns-in-Ok-clause-stands
-returns-in-Ok-clause-stands c f is = links f c.in-Ok.ensures.clean (subst (λ m. StandsInLinks m f) c.in-Ok.ensures.net (c.flatten.ensures.stands f is))
+returns-in-Ok-clause-stands c f is = in_tree f (links f c.in-Ok.ensures.clean (subst (λ m. StandsInLinks m f) c.in-Ok.ensures.net (c.flatten.ensures.stands f is)))
 
 pub returns-in-Ok-clause-least : goal.returns-in-Ok-clause-least
 returns-in-Ok-clause-least c f is rises =

@@ -9,4 +9,4 @@ returns-clause-puts g c text summed =
     let m = c.initial.result.now in
     let line = summary_line c.args.checked.now m in
     subst (λ x. Puts g.K.Sink.taken g.K.Sink.number c.put_summary.result c.args.sink.now c.put_summary.new.sink x)
-    (ap (λ f. summary_line f m) c.typed.ensures ∙ one_sum c.args.checked.now line text (record { initial = m; is_initial = c.initial.ensures; is = refl }) summed) c.put_summary.ensures.puts
+    (ap (λ f. summary_line f m) c.typed.ensures ∙ one_sum c.args.checked.now line text c.has_sound_declarations.ensures (record { initial = m; is_initial = c.initial.ensures; is = refl }) summed) c.put_summary.ensures.puts
