@@ -30,7 +30,7 @@ use Rattle.pn_syntax.specs.declared.term.TermNode.TheOpen as layer
 use Rattle.pn_syntax.specs.declared.term.TermNode.TheVariants as nodes
 use Rattle.pn_terms.specs.Standing.{StandsAlways, StandsAt, StandsWith}
 use Rattle.pn_terms.specs.Terms.{Layer, layer_of, parts_of}
-use Rattle.pn_terms.proofs.SortLemmas.{always_not_with, always_once, sorts_agree, with_once}
+use Rattle.pn_terms.proofs.OrderLemmas.{one_at}
 use Rattle.pn_terms.specs.declared.term_sort.TermSort.{TermSort}
 use Rattle.pn_tree.specs.declared.element.Element.{Element}
 use Rattle.pn_checks.proofs.HeldLemmas.{one_element}
@@ -77,14 +77,6 @@ module _ (items : List Declaration) where
   term_told : (x : Term) (f : Fault) → StandsAt items x f → IsOfTerm x.at f
   term_told x f (inl h) = always_told (layer_of x) x.at f h
   term_told x f (inr (ts, have, h)) = with_told (layer_of x) ts x.at f h
-
-  -- a term has one fault by itself
-  term_once : (x : Term) (f g : Fault) → StandsAt items x f → StandsAt items x g → g ≡ f
-  term_once x f g (inl h) (inl k) = always_once items (layer_of x) x.at f g h k
-  term_once x f g (inl h) (inr (ts, have, k)) = absurd (always_not_with items (layer_of x) ts x.at f g h k)
-  term_once x f g (inr (ts, have, h)) (inl k) = absurd (always_not_with items (layer_of x) ts x.at g f k h)
-  term_once x f g (inr (ts, have, h)) (inr (us, also, k)) =
-      with_once items (layer_of x) us x.at f g (subst (λ vs. StandsWith items (layer_of x) vs x.at f) (sorts_agree items (parts_of x) ts us have also) h) k
 
 -- ---- what faults blame
 
@@ -206,7 +198,7 @@ module _ (tree : Element) (rises : HasRisingOffsets tree) where
   pub typing_ways_once : (f g : Fault) → TypingWay tree f → TypingWay tree g → f.at ≡ g.at → number_of f.reason ≡ number_of g.reason → f ≡ g
   typing_ways_once f g (by_term x from h) (by_term y also k) same number =
       let one : x ≡ y = one_term x y from also (sym (term_told (Items tree) x f h).0 ∙ same ∙ (term_told (Items tree) y g k).0) in
-      term_once (Items tree) x g f (subst (λ z. StandsAt (Items tree) z g) (sym one) k) h
+      one_at (Items tree) x g f (subst (λ z. StandsAt (Items tree) z g) (sym one) k) h
   typing_ways_once f g (by_term x from h) (by_label name t a is) same number = absurd (not_by_term x f g 28 h number (number_is g _ is) (omega arith))
   typing_ways_once f g (by_term x from h) (by_variable y name also node is) same number = absurd (not_by_term x f g 29 h number (number_is g _ is) (omega arith))
   typing_ways_once f g (by_term x from h) (by_value offset is) same number = absurd (not_by_term x f g 30 h number (number_is g _ is) (omega arith))

@@ -4,7 +4,7 @@ use Rattle.std.specs.List.{Contains, slice_get}
 use Rattle.std.specs.Option.{option_and_then, option_map}
 use Rattle.pn_ids.specs.Names.{named_in}
 use Rattle.pn_names.specs.Names.{constant_ref, names_of, widths_of}
-use Rattle.pn_net.proofs.AlikeLemmas.{alike_get, alike_option}
+use Rattle.pn_net.proofs.AlikeLemmas.{alike_get, alike_option, base_bare, elements_bare}
 use Rattle.pn_partitions.specs.Partitions.{listed_value, value_in, value_layer}
 use Rattle.pn_resolve.proofs.OffsetLemmas.{names_bare, offsets_aside, widths_bare}
 use Rattle.pn_resolve.proofs.Options.{then_some}
@@ -20,16 +20,6 @@ use Rattle.pn_values.specs.declared.sort.Sort.{Sort}
 use Rattle.pn_values.specs.declared.sort.Sort.TheOpen as layer
 use Rattle.pn_values.specs.declared.sort.Sort.TheViews.{out-Sort}
 use Rattle.pn_values.specs.declared.value.Value.{Value}
-
-base_bare : (d : Declaration) → base_of (declaration_without_offsets d) ≡ option_map sort_without_offsets (base_of d)
-base_bare (declarations.Named id name body at) = refl
-base_bare (declarations.Variable id name sort at) = refl
-base_bare (declarations.Partition id name sort elements at) = refl
-
-elements_bare : (d : Declaration) → elements_of (declaration_without_offsets d) ≡ map element_without_offsets (elements_of d)
-elements_bare (declarations.Named id name body at) = refl
-elements_bare (declarations.Variable id name sort at) = refl
-elements_bare (declarations.Partition id name sort elements at) = refl
 
 module _ (items others : List Declaration) (same : map declaration_without_offsets items ≡ map declaration_without_offsets others) where
   pub names_same : names_of items ≡ names_of others

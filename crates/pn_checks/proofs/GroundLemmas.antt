@@ -17,14 +17,8 @@ use Rattle.pn_terms.specs.declared.term_sort.TermSort.{TermSort}
 use Rattle.pn_terms.specs.Sorts.{HasSort, HaveSorts, none, more}
 use Rattle.pn_terms.specs.Terms.{IsPart, Layer, inside, itself, layer_of, parts_in, parts_of}
 use Rattle.pn_terms.specs.Variables.{variables_in_layer, variables_in_term}
+use Rattle.pn_terms.proofs.VariableLemmas.{variables_at}
 use Rattle.pn_values.specs.declared.value.Value.{Value}
-
-variables_at : (items : List Declaration) (e : Term) (l : Layer) → layer_of e ≡ l
-    → variables_in_term items e ≡ variables_in_layer items (map-TermNode TermNode Term (List ℕ) (List ℕ) (fold-TermNode (List ℕ) (List ℕ) (variables_in_layer items) (λ e. e.node)) (variables_in_term items) l)
-variables_at items e l is =
-    fold_out-Term (List ℕ) (List ℕ) (variables_in_layer items) (λ e. e.node) e
-    ∙ fold_out-TermNode (List ℕ) (List ℕ) (variables_in_layer items) (λ e. e.node) e.node
-    ∙ ap (λ m. variables_in_layer items (map-TermNode TermNode Term (List ℕ) (List ℕ) (fold-TermNode (List ℕ) (List ℕ) (variables_in_layer items) (λ e. e.node)) (variables_in_term items) m)) is
 
 -- the variables of a term are those of its parts, where it is no variable
 by_layer : (items : List Declaration) (e : Term) (l : Layer) → layer_of e ≡ l → HasNoVariable e → flat_map (variables_in_term items) (parts_in l) ≡ [] → variables_in_term items e ≡ []

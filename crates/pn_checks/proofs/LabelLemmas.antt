@@ -10,7 +10,7 @@ use Rattle.pn_faults.specs.Least.{lower}
 use Rattle.pn_faults.specs.Order.{fault_at}
 use Rattle.pn_faults.specs.Walks.{IsWalked, KeepsLeast, StandsInSome}
 use Rattle.pn_faults.proofs.WalkLemmas.{keeps_alike, keeps_both, keeps_nothing, keeps_one}
-use Rattle.pn_checks.specs.LabelFaults.{IsLookedAt, IsOfOther, IsVariableIn, LabelStands, RightOrFault}
+use Rattle.pn_checks.specs.LabelFaults.{IsExamined, IsOfOther, IsVariableIn, LabelStands, RightOrFault}
 use Rattle.pn_checks.specs.NoValue.{HasNoVariable}
 use Rattle.pn_operators.specs.declared.op.Op.{Op}
 use Rattle.pn_syntax.specs.declared.declaration.Declaration.{Declaration}
@@ -39,7 +39,7 @@ module _ (items : List Declaration) (e : Term) (Wants : TermSort → Type 0) (la
   Walked o old new = IsWalked (HasSort items e) (StandsIn items e) o old new
 
   -- a term in which a fault stands has no sort at all
-  pub judged_none : (o : Option TermSort) (old mid : Option Fault) → o ≡ None → Walked o old mid → IsLookedAt Right (LabelStands items Wants label e) false old mid
+  pub judged_none : (o : Option TermSort) (old mid : Option Fault) → o ≡ None → Walked o old mid → IsExamined Right (LabelStands items Wants label e) false old mid
   judged_none None old mid is walked = record {
     answered = (walked.answered.0, inl walked.answered.1);
     least = keeps_both (StandsIn items e) (IsOfOther items Wants label e) old mid mid walked.least
@@ -49,7 +49,7 @@ module _ (items : List Declaration) (e : Term) (Wants : TermSort → Type 0) (la
 
   -- one that has a sort has it alone
   pub judged_some : (o : Option TermSort) (s : TermSort) (b : Bool) (old mid new : Option Fault) → o ≡ Some s → Walked o old mid → (IsTrue b ↔ Wants s) → (b ≡ true → new ≡ mid)
-      → (b ≡ false → new ≡ lower mid (Some (fault_at reasons.LabelSort e.at label))) → IsLookedAt Right (LabelStands items Wants label e) b old new
+      → (b ≡ false → new ≡ lower mid (Some (fault_at reasons.LabelSort e.at label))) → IsExamined Right (LabelStands items Wants label e) b old new
   judged_some o s b old mid new is walked fits same more = by b fits same more
     where
       has : HasSort items e s
@@ -58,7 +58,7 @@ module _ (items : List Declaration) (e : Term) (Wants : TermSort → Type 0) (la
       here : IsOfOther items Wants label e (fault_at reasons.LabelSort e.at label) → (g : Fault) → IsOfOther items Wants label e g → g ≡ fault_at reasons.LabelSort e.at label
       here own g other = other.3
 
-      by : (b : Bool) → (IsTrue b ↔ Wants s) → (b ≡ true → new ≡ mid) → (b ≡ false → new ≡ lower mid (Some (fault_at reasons.LabelSort e.at label))) → IsLookedAt Right (LabelStands items Wants label e) b old new
+      by : (b : Bool) → (IsTrue b ↔ Wants s) → (b ≡ true → new ≡ mid) → (b ≡ false → new ≡ lower mid (Some (fault_at reasons.LabelSort e.at label))) → IsExamined Right (LabelStands items Wants label e) b old new
       by true fits same more = record {
         answered = (s, has, fits.0 refl);
         least = keeps_both (StandsIn items e) (IsOfOther items Wants label e) old mid new walked.least
@@ -76,11 +76,11 @@ module _ (items : List Declaration) (e : Term) (Wants : TermSort → Type 0) (la
 -- ---- variables
 
 -- nothing is there, or what is there was looked at already
-pub judged_nothing : (R : Type 0) (P : Fault → Type 0) (old : Option Fault) → R → ((f : Fault) → P f → ⊥) → IsLookedAt R P true old old
+pub judged_nothing : (R : Type 0) (P : Fault → Type 0) (old : Option Fault) → R → ((f : Fault) → P f → ⊥) → IsExamined R P true old old
 judged_nothing R P old right none = record { answered = right; least = keeps_nothing P old none }
 
 -- the same said otherwise
-pub judged_alike : (R S : Type 0) (P Q : Fault → Type 0) (b : Bool) (old new : Option Fault) → (R → S) → ((f : Fault) → P f → Q f) → ((f : Fault) → Q f → P f) → IsLookedAt R P b old new → IsLookedAt S Q b old new
+pub judged_alike : (R S : Type 0) (P Q : Fault → Type 0) (b : Bool) (old new : Option Fault) → (R → S) → ((f : Fault) → P f → Q f) → ((f : Fault) → Q f → P f) → IsExamined R P b old new → IsExamined S Q b old new
 judged_alike R S P Q b old new right to from judged = record { answered = by b judged.answered; least = keeps_alike P Q old new to from judged.least }
   where
     by : (b : Bool) → RightOrFault R P b → RightOrFault S Q b
@@ -89,7 +89,7 @@ judged_alike R S P Q b old new right to from judged = record { answered = by b j
 
 -- one and then another
 pub judged_both : (R S T : Type 0) (P Q U : Fault → Type 0) (a b c : Bool) (old mid new : Option Fault) → (R → S → T) → ((f : Fault) → P f ⊎ Q f → U f) → ((f : Fault) → U f → P f ⊎ Q f)
-    → (a ≡ true → b ≡ true → c ≡ true) → (a ≡ false → c ≡ false) → (b ≡ false → c ≡ false) → IsLookedAt R P a old mid → IsLookedAt S Q b mid new → IsLookedAt T U c old new
+    → (a ≡ true → b ≡ true → c ≡ true) → (a ≡ false → c ≡ false) → (b ≡ false → c ≡ false) → IsExamined R P a old mid → IsExamined S Q b mid new → IsExamined T U c old new
 judged_both R S T P Q U a b c old mid new right to from sure no1 no2 first second = record {
   answered = by a b refl refl first.answered second.answered;
   least = keeps_alike (λ f. P f ⊎ Q f) U old new to from (keeps_both P Q old mid new first.least second.least);
@@ -120,19 +120,19 @@ module _ (e : Term) (l : Layer) (is : layer_of e ≡ l) where
       by (inside _ _ p c rest) = each p (subst (λ m. Contains (parts_in m) p) is c) x rest name named
 
   pub by_parts : ((name : List ℕ) → l ≡ layer.Variable name → ⊥) → (b : Bool) (old new : Option Fault)
-      → IsLookedAt ((q : Term) → Contains (parts_in l) q → HasNoVariable q) (StandsInSome IsVariableIn (parts_in l)) b old new → IsLookedAt (HasNoVariable e) (IsVariableIn e) b old new
+      → IsExamined ((q : Term) → Contains (parts_in l) q → HasNoVariable q) (StandsInSome IsVariableIn (parts_in l)) b old new → IsExamined (HasNoVariable e) (IsVariableIn e) b old new
   by_parts apart b old new judged =
       judged_alike ((q : Term) → Contains (parts_in l) q → HasNoVariable q) (HasNoVariable e) (StandsInSome IsVariableIn (parts_in l)) (IsVariableIn e) b old new
       (none_in apart) of_parts (in_parts apart) judged
 
   -- a leaf that is no variable
-  pub by_leaf : ((name : List ℕ) → l ≡ layer.Variable name → ⊥) → parts_in l ≡ [] → (old : Option Fault) → IsLookedAt (HasNoVariable e) (IsVariableIn e) true old old
+  pub by_leaf : ((name : List ℕ) → l ≡ layer.Variable name → ⊥) → parts_in l ≡ [] → (old : Option Fault) → IsExamined (HasNoVariable e) (IsVariableIn e) true old old
   by_leaf apart alone old =
       judged_nothing (HasNoVariable e) (IsVariableIn e) old (none_in apart (λ q c. absurd (contains_nil q (subst (λ xs. Contains xs q) alone c))))
       (λ f stands. let some = in_parts apart f stands in contains_nil some.0 (subst (λ xs. Contains xs some.0) alone some.1))
 
 -- a variable
-pub by_variable : (e : Term) (name : List ℕ) → e.node ≡ nodes.Variable name → (old new : Option Fault) → new ≡ lower old (Some (fault_at reasons.NotGround e.at name)) → IsLookedAt (HasNoVariable e) (IsVariableIn e) false old new
+pub by_variable : (e : Term) (name : List ℕ) → e.node ≡ nodes.Variable name → (old new : Option Fault) → new ≡ lower old (Some (fault_at reasons.NotGround e.at name)) → IsExamined (HasNoVariable e) (IsVariableIn e) false old new
 by_variable e name is old new told = record {
   answered = (fault_at reasons.NotGround e.at name, own);
   least = keeps_one (IsVariableIn e) (fault_at reasons.NotGround e.at name) old new own only told;
@@ -161,8 +161,8 @@ args_no_variable : (op : Op) (ps : List Term) (other : List ℕ) → ◌≡◌ {
 args_no_variable op ps other same = cc
 
 -- an element of a partition, by its argument
-pub by_element : (e : Term) (name : List ℕ) (arg p : Term) → e.node ≡ nodes.PartitionOf name arg → p ≡ arg → (b : Bool) (old new : Option Fault) → IsLookedAt (HasNoVariable p) (IsVariableIn p) b old new
-    → IsLookedAt (HasNoVariable e) (IsVariableIn e) b old new
+pub by_element : (e : Term) (name : List ℕ) (arg p : Term) → e.node ≡ nodes.PartitionOf name arg → p ≡ arg → (b : Bool) (old new : Option Fault) → IsExamined (HasNoVariable p) (IsVariableIn p) b old new
+    → IsExamined (HasNoVariable e) (IsVariableIn e) b old new
 by_element e name arg p is given b old new judged =
     by_parts e (layer.PartitionOf name p) (out_element e.node name p (is ∙ ap (λ x. nodes.PartitionOf name x) (sym given))) (element_no_variable name p) b old new
     (judged_alike (HasNoVariable p) ((q : Term) → Contains (p ∷ []) q → HasNoVariable q) (IsVariableIn p) (StandsInSome IsVariableIn (p ∷ [])) b old new
@@ -170,20 +170,20 @@ by_element e name arg p is given b old new judged =
 
 -- an operator, by its arguments
 pub by_args : (e : Term) (op : Op) (args ps : List Term) → e.node ≡ nodes.Apply op args → ps ≡ args → (b : Bool) (old new : Option Fault)
-    → IsLookedAt ((q : Term) → Contains ps q → HasNoVariable q) (StandsInSome IsVariableIn ps) b old new → IsLookedAt (HasNoVariable e) (IsVariableIn e) b old new
+    → IsExamined ((q : Term) → Contains ps q → HasNoVariable q) (StandsInSome IsVariableIn ps) b old new → IsExamined (HasNoVariable e) (IsVariableIn e) b old new
 by_args e op args ps is given b old new judged =
     by_parts e (layer.Apply op ps) (out_apply e.node op ps (is ∙ ap (λ x. nodes.Apply op x) (sym given))) (args_no_variable op ps) b old new judged
 
 -- several terms: none of them, those so far and one more, all
 
-pub several_none : (old : Option Fault) → IsLookedAt ((q : Term) → Contains [] q → HasNoVariable q) (StandsInSome IsVariableIn []) true old old
+pub several_none : (old : Option Fault) → IsExamined ((q : Term) → Contains [] q → HasNoVariable q) (StandsInSome IsVariableIn []) true old old
 several_none old = judged_nothing ((q : Term) → Contains [] q → HasNoVariable q) (StandsInSome IsVariableIn []) old (λ q c. absurd (contains_nil q c)) (λ f h. contains_nil h.0 h.1)
 
 pub several_more : (es all : List Term) (e : Term) → all ≡ es ++ e ∷ [] → (a b c : Bool) (old mid new : Option Fault) → (a ≡ true → b ≡ true → c ≡ true) → (a ≡ false → c ≡ false) → (b ≡ false → c ≡ false)
-    → IsLookedAt ((q : Term) → Contains es q → HasNoVariable q) (StandsInSome IsVariableIn es) a old mid → IsLookedAt (HasNoVariable e) (IsVariableIn e) b mid new
-    → IsLookedAt ((q : Term) → Contains all q → HasNoVariable q) (StandsInSome IsVariableIn all) c old new
+    → IsExamined ((q : Term) → Contains es q → HasNoVariable q) (StandsInSome IsVariableIn es) a old mid → IsExamined (HasNoVariable e) (IsVariableIn e) b mid new
+    → IsExamined ((q : Term) → Contains all q → HasNoVariable q) (StandsInSome IsVariableIn all) c old new
 several_more es all e is a b c old mid new sure no1 no2 first second =
-    subst (λ xs. IsLookedAt ((q : Term) → Contains xs q → HasNoVariable q) (StandsInSome IsVariableIn xs) c old new) (sym is)
+    subst (λ xs. IsExamined ((q : Term) → Contains xs q → HasNoVariable q) (StandsInSome IsVariableIn xs) c old new) (sym is)
     (judged_both ((q : Term) → Contains es q → HasNoVariable q) (HasNoVariable e) ((q : Term) → Contains (es ++ e ∷ []) q → HasNoVariable q)
     (StandsInSome IsVariableIn es) (IsVariableIn e) (StandsInSome IsVariableIn (es ++ e ∷ [])) a b c old mid new each in_more out_of_more sure no1 no2 first second)
   where
@@ -206,11 +206,11 @@ several_more es all e is a b c old mid new sure no1 no2 first second =
         by (inr same) = inr (subst (λ z. IsVariableIn z f) (sym same) h)
 
 pub several_all : (es : List Term) (i : ℕ) → length es ≤ i → (b : Bool) (old new : Option Fault)
-    → IsLookedAt ((q : Term) → Contains (take i es) q → HasNoVariable q) (StandsInSome IsVariableIn (take i es)) b old new → IsLookedAt ((q : Term) → Contains es q → HasNoVariable q) (StandsInSome IsVariableIn es) b old new
-several_all es i end b old new judged = subst (λ xs. IsLookedAt ((q : Term) → Contains xs q → HasNoVariable q) (StandsInSome IsVariableIn xs) b old new) (take_all i es end) judged
+    → IsExamined ((q : Term) → Contains (take i es) q → HasNoVariable q) (StandsInSome IsVariableIn (take i es)) b old new → IsExamined ((q : Term) → Contains es q → HasNoVariable q) (StandsInSome IsVariableIn es) b old new
+several_all es i end b old new judged = subst (λ xs. IsExamined ((q : Term) → Contains xs q → HasNoVariable q) (StandsInSome IsVariableIn xs) b old new) (take_all i es end) judged
 
 -- what a call that answers judges
-pub judged_call : {E : Type 0} (R S : Type 0) (P Q : Fault → Type 0) (old new : Option Fault) → ((b : Bool) → IsLookedAt R P b old new → IsLookedAt S Q b old new) → (r : Result Bool E) → IfOk r (λ b. IsLookedAt R P b old new)
-    → IfOk r (λ b. IsLookedAt S Q b old new)
+pub judged_call : {E : Type 0} (R S : Type 0) (P Q : Fault → Type 0) (old new : Option Fault) → ((b : Bool) → IsExamined R P b old new → IsExamined S Q b old new) → (r : Result Bool E) → IfOk r (λ b. IsExamined R P b old new)
+    → IfOk r (λ b. IsExamined S Q b old new)
 judged_call R S P Q old new to (Ok b) judged = to b judged
 judged_call R S P Q old new to (Err e) judged = tt

@@ -141,15 +141,6 @@ SaysOnce SaysMultiset = (e : Term) (b c : List (Value × ℕ)) → SaysMultiset 
 pub says_once : (items : List Declaration) → ((e : Term) (o p : Outcome) → HasValue items [] [] e o → HasValue items [] [] e p → o ≡ p) → SaysOnce (SaysMultiset items)
 says_once items once e b c (o, value, is) (p, also, that) = let both : Some b ≡ Some c = sym is ∙ ap said_by (once e o p value also) ∙ that in cc
 
--- where each term says what it is to say, nothing is said of terms otherwise
-pub says_alike : (S T : Term → List (Value × ℕ) → Type 0) → ((e : Term) (b : List (Value × ℕ)) → S e b → T e b) → (places : List Place) (m : List (Token × ℕ)) → AreMarked S places m → AreMarked T places m
-says_alike S T to places m marked i = by (slice_get places i) (marked i)
-  where
-    first : (term : Option Term) (number : Option ℕ) (b : List (Value × ℕ)) → IsFirstBy S term number b → IsFirstBy T term number b
-    first None None b is = is
-    first None (Some n) b is = is
-    first (Some e) number b is = to e b is
-
     by : (o : Option Place) → IsMarked S m i o → IsMarked T m i o
     by None is = is
     by (Some p) (b, is, stand) = (b, first (said p.hl_marking) (said p.marking) b is, stand)

@@ -15,7 +15,7 @@ use Rattle.pn_net.specs.Objects.{net_arcs, net_places, net_transitions}
 use Rattle.pn_objects.specs.declared.object.Arc.{Arc}
 use Rattle.pn_objects.specs.declared.object.Place.{Place}
 use Rattle.pn_objects.specs.declared.object.Transition.{Transition}
-use Rattle.pn_pages.proofs.ApartLemmas.{offsets_law, rise_of}
+use Rattle.pn_pages.proofs.ApartLemmas.{offset_in, offsets_law, rise_of}
 use Rattle.pn_round_trip.proofs.KidLemmas.{shallower}
 use Rattle.pn_shape.proofs.WrittenLemmas.{both_all}
 use Rattle.pn_spelling.specs.Parts.{child_elements, child_named, first_child, has_name}
@@ -150,9 +150,6 @@ OffsetsRise e = Rise (offsets_of e)
 
 rises_in : (e : Element) → OffsetsRise e → Rise (flat_map offsets_of (child_elements e))
 rises_in e rises = rise_rest (e.at ∷ []) (flat_map offsets_of (child_elements e)) (subst Rise (offsets_law e) rises)
-
-offset_in : (e x : Element) → IsWithin child_elements e x → Contains (offsets_of e) x.at
-offset_in e x within = place_offset (λ (z : Element). z.at) child_elements offsets_of offsets_law e x within
 
 kid_less : (e x : Element) → Contains (child_elements e) x → depth_of x < depth_of e
 kid_less e x there = one_of (λ z. depth_of z < depth_of e) (child_elements e) x (shallower e) there

@@ -46,10 +46,6 @@ of_leaf items e l is alone old new keeps =
     (λ f h. elim (stands_out items e l is f h) [ inl some ↦ absurd (contains_nil some.0 (subst (λ xs. Contains xs some.0) alone some.1)) | inr own ↦ own ])
     keeps
 
--- a leaf that writes no sort
-pub of_bare : (items : List Declaration) (e : Term) (l : Layer) → layer_of e ≡ l → parts_in l ≡ [] → ((f : Fault) → SortsStandAt items l e.at f → ⊥) → (old : Option Fault) → KeepsLeast (SortsStandIn items e) old old
-of_bare items e l is alone none old = of_leaf items e l is alone old old (keeps_nothing (SortsStandAt items l e.at) old none)
-
 -- a term whose node writes no sort
 of_node : (items : List Declaration) (e : Term) (l : Layer) → layer_of e ≡ l → ((f : Fault) → SortsStandAt items l e.at f → ⊥) → (old new : Option Fault) → KeepsLeast (StandsInSome (SortsStandIn items) (parts_in l)) old new → KeepsLeast (SortsStandIn items e) old new
 of_node items e l is none old new keeps =
@@ -83,13 +79,6 @@ of_all P es i end old new keeps = subst (λ xs. KeepsLeast (StandsInSome P xs) o
 -- what a loop gets from a list stands there
 pub got_there : {X : Type 0} (xs : List X) (i : ℕ) (x : X) → i < length xs → x ≡ get_or xs i x → slice_get xs i ≡ Some x
 got_there xs i x small is = slice_get-get_or xs i x small ∙ ap (λ y. Some y) (sym is)
-
--- the range of a constant
-pub of_range : (at : ℕ) (start end : ℤ) (old new : Option Fault) → int_lt end start ≡ true → new ≡ lower old (Some (fault_at reasons.EmptyRange at (codes "finiteintrange"))) → KeepsLeast (IsEmptyRangeAt start end at) old new
-of_range at start end old new empty is = keeps_one (IsEmptyRangeAt start end at) (fault_at reasons.EmptyRange at (codes "finiteintrange")) old new (empty, refl) (λ g stands. stands.1) is
-
-pub of_full_range : (at : ℕ) (start end : ℤ) (old : Option Fault) → int_lt end start ≡ false → KeepsLeast (IsEmptyRangeAt start end at) old old
-of_full_range at start end old full = keeps_nothing (IsEmptyRangeAt start end at) old (λ f stands. false≢true (sym full ∙ stands.0))
 
 -- ---- what is known of the declarations
 

@@ -16,6 +16,7 @@ use Rattle.pn_syntax.specs.declared.term.TermNode.TheOpen as layer
 use Rattle.pn_syntax.specs.declared.term.TermNode.TheVariants as nodes
 use Rattle.pn_syntax.specs.declared.term.TermNode.TheVariants.{rolls-RangeConst, rolls-Variable}
 use Rattle.pn_syntax.specs.declared.term.TermNode.TheViews.{out-roll-TermNode, roll-TermNode, roll-out-TermNode}
+use Rattle.pn_terms.proofs.OffsetLemmas.{parts_alike}
 use Rattle.pn_terms.proofs.TermLemmas.{out_range, out_variable}
 use Rattle.pn_terms.specs.Standing.{SortStandsAt, SortStandsIn}
 use Rattle.pn_terms.specs.Terms.{IsPart, Layer, inside, itself, layer_of, parts_in, parts_of}
@@ -53,22 +54,6 @@ layer_bare e = ap layer_of (bare_term_at e (layer_of e) (roll-out-TermNode e.nod
 -- what a term is, by another that is equal but for offsets
 pub told : (e other : Term) (l : Layer) → term_without_offsets e ≡ term_without_offsets other → layer_of e ≡ l → TellsTermLayer (bare_term_layer l) (layer_of other)
 told e other l same is = subst (λ b. TellsTermLayer b (layer_of other)) (sym (layer_bare other) ∙ ap layer_of (sym same) ∙ layer_bare e ∙ ap bare_term_layer is) (tells (layer_of other))
-
-parts_bare : (l : Layer) → parts_in (bare_term_layer l) ≡ map term_without_offsets (parts_in l)
-parts_bare (layer.Variable name) = refl
-parts_bare (layer.UserOp name) = refl
-parts_bare (layer.Bool truth) = refl
-parts_bare (layer.Number value sort) = refl
-parts_bare (layer.RangeConst value start end) = refl
-parts_bare (layer.Text text) = refl
-parts_bare (layer.All e) = refl
-parts_bare (layer.Empty e) = refl
-parts_bare (layer.EmptyList e) = refl
-parts_bare (layer.PartitionOf name arg) = refl
-parts_bare (layer.Apply op args) = refl
-
-pub parts_alike : (e other : Term) → term_without_offsets e ≡ term_without_offsets other → map term_without_offsets (parts_of e) ≡ map term_without_offsets (parts_of other)
-parts_alike e other same = sym (parts_bare (layer_of e)) ∙ ap parts_in (sym (layer_bare e) ∙ ap layer_of same ∙ layer_bare other) ∙ parts_bare (layer_of other)
 
 pub part_alike : (e x : Term) → IsPart e x → (other : Term) → term_without_offsets e ≡ term_without_offsets other → (y : Term) × IsPart other y × (term_without_offsets x ≡ term_without_offsets y)
 part_alike e x (itself _ _ is) other same = (other, itself other other refl, ap term_without_offsets is ∙ same)

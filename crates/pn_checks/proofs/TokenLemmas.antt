@@ -36,16 +36,6 @@ module _ (i : ℕ) (old new : List (Token × ℕ)) (v : Value) (n : ℕ) (added 
       let none : count_in token_cmp (token i v, n) (token j w) ≡ 0 = other_place j i n w v differ in
       omega (arith, here, none)
 
--- what keeps others twice keeps them
-pub others_both : (i : ℕ) (old mid new : List (Token × ℕ)) → KeepsOthers i old mid → KeepsOthers i mid new → KeepsOthers i old new
-others_both i old mid new first second j v differ = second j v differ ∙ first j v differ
-
-pub nothing_gets : (i : ℕ) (old : List (Token × ℕ)) → Gets i [] old old
-nothing_gets i old v = omega arith
-
-pub nothing_others : (i : ℕ) (old : List (Token × ℕ)) → KeepsOthers i old old
-nothing_others i old j v differ = refl
-
 -- of the next entry so many fit
 module _ (i : ℕ) (bag : List (Value × ℕ)) (v : Value) (n : ℕ) (rest : List (Value × ℕ)) (old mid : List (Token × ℕ)) (still : StillGets i bag ((v, n) ∷ rest) old mid) where
   own : count_in value_cmp (v, n) v ≡ n

@@ -6,6 +6,7 @@ use Rattle.pn_bag.specs.Bag.{IsBag}
 use Rattle.pn_bag.specs.declared.TheConstants.{MAX_COUNT}
 use Rattle.pn_facts.proofs.Contained.{contains_at}
 use Rattle.pn_facts.proofs.Each.{one_of}
+use Rattle.pn_facts.proofs.Lists.{got}
 use Rattle.pn_faults.specs.declared.fault.Fault.{Fault}
 use Rattle.pn_faults.specs.declared.reason.Reason.TheVariants as reasons
 use Rattle.pn_faults.specs.Order.{fault_at}
@@ -86,11 +87,6 @@ pub there : {X T : Type 0} (h : X → Option T) (xs : List X) (x : X) (e : T) �
 there h xs x e c is =
     let found = where_said (λ t f. t ≡ e) h (fault_at reasons.NoValue 0 []) xs (x, c, spoken (λ t f. t ≡ e) (fault_at reasons.NoValue 0 []) (h x) e is refl) in
     subst (Contains (filter_map h xs)) found.2 found.1
-
-got : {X : Type 0} (xs : List X) (i : ℕ) → i < length xs → (x : X) × (slice_get xs i ≡ Some x)
-got [] i small = absurd (omega (arith, small))
-got (x ∷ xs) zero small = (x, refl)
-got (x ∷ xs) (suc i) small = got xs i (omega (arith, small))
 
 module _ (n : Net) (f : Flat) (flat : IsFlattened n (net_of_flat f)) (sound : HasSound n) (ends : HasBothEnds f) where
   abbrev Items : List Declaration

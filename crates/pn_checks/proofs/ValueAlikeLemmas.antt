@@ -22,7 +22,8 @@ use Rattle.pn_terms.specs.Terms.{Layer, layer_of, parts_of}
 use Rattle.pn_terms.specs.declared.term_sort.TermSort.{TermSort}
 use Rattle.pn_values.specs.declared.value.Value.{Value}
 use Rattle.pn_checks.proofs.DeclarationAlikeLemmas.{names_same, part_of_alike, widths_same}
-use Rattle.pn_checks.proofs.TermAlikeLemmas.{TellsTermLayer, parts_alike, told}
+use Rattle.pn_terms.proofs.OffsetLemmas.{parts_alike}
+use Rattle.pn_checks.proofs.TermAlikeLemmas.{TellsTermLayer, told}
 use Rattle.pn_checks.proofs.TypingAlikeLemmas.{have_alike}
 
 module _ (items others : List Declaration) (same : map declaration_without_offsets items ≡ map declaration_without_offsets others) where

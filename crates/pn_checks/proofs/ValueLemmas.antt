@@ -10,7 +10,7 @@ use Rattle.pn_faults.specs.Order.{fault_at}
 use Rattle.pn_faults.specs.Walks.{KeepsLeast}
 use Rattle.pn_faults.proofs.WalkLemmas.{keeps_alike, keeps_both, keeps_nothing, keeps_one}
 use Rattle.pn_checks.specs.Initial.{IsFirstBy}
-use Rattle.pn_checks.specs.LabelFaults.{AtPlaceStands, InscriptionStands, IsLookedAt, IsVariableIn, LabelStands, MarkingStands, RightOrFault}
+use Rattle.pn_checks.specs.LabelFaults.{AtPlaceStands, InscriptionStands, IsExamined, IsVariableIn, LabelStands, MarkingStands, RightOrFault}
 use Rattle.pn_checks.specs.NoValue.{AreOfSort, HasNoVariable, IsNoValueOf, LacksValue, SaysMultiset, multiset_of}
 use Rattle.pn_checks.specs.Tokens.{Gets, HasTokens, HasTokensBy, number_tokens}
 use Rattle.pn_eval.specs.Values.{HasValue}
@@ -23,6 +23,7 @@ use Rattle.pn_resolve.proofs.Meanings.{resolves_once}
 use Rattle.pn_syntax.specs.declared.declaration.Declaration.{Declaration}
 use Rattle.pn_syntax.specs.declared.sort_expr.SortExpr.{SortExpr}
 use Rattle.pn_syntax.specs.declared.term.Term.{Term}
+use Rattle.pn_pages.proofs.TellingLemmas.{none_lower}
 use Rattle.pn_terms.proofs.SortLemmas.{sort_once, sorted_no_fault}
 use Rattle.pn_terms.specs.declared.term_sort.TermSort.{TermSort}
 use Rattle.pn_terms.specs.Sorts.{HasSort}
@@ -38,18 +39,12 @@ sort_by_once items (Some e) s t is also = resolves_once items e s t is also
 pub place_sort_once : (items : List Declaration) (p : Place) (s t : Sort) → IsPlaceSort items p s → IsPlaceSort items p t → s ≡ t
 place_sort_once items p s t is also = sort_by_once items (said p.sort) s t is also
 
-lower_none : (a b : Option Fault) → lower a b ≡ None → (a ≡ None) × (b ≡ None)
-lower_none None None is = (refl, refl)
-lower_none None (Some g) is = absurd (let no : Some g ≡ None = is in cc)
-lower_none (Some f) None is = absurd (let no : Some f ≡ None = is in cc)
-lower_none (Some f) (Some g) is = absurd (let no : Some (lower_of f g) ≡ None = is in cc)
-
 -- where none is kept, none stands, and none was kept before
 pub none_stands : (P : Fault → Type 0) (old new : Option Fault) → KeepsLeast P old new → new ≡ None → (f : Fault) → P f → ⊥
-none_stands P old new keeps none = subst (IsLeastOf P) (lower_none old keeps.own (sym keeps.is_lower ∙ none)).1 keeps.is_least
+none_stands P old new keeps none = subst (IsLeastOf P) (none_lower old keeps.own (sym keeps.is_lower ∙ none)).1 keeps.is_least
 
 pub none_before : (P : Fault → Type 0) (old new : Option Fault) → KeepsLeast P old new → new ≡ None → old ≡ None
-none_before P old new keeps none = (lower_none old keeps.own (sym keeps.is_lower ∙ none)).0
+none_before P old new keeps none = (none_lower old keeps.own (sym keeps.is_lower ∙ none)).0
 
 -- a term at a place of this sort
 module _ (items : List Declaration) (p : Place) (sort : Sort) (is_sort : IsPlaceSort items p sort) (label : List ℕ) (e : Term) where
@@ -103,7 +98,7 @@ module _ (items : List Declaration) (sort : Sort) (e : Term) where
   no_value_asked p is_sort true false r (g, (x, part, name, named, told)) never old = keeps_nothing (IsNoValueOf items p e) old (λ f lacks. lacks.0.no_variable x part name named)
 
   -- and then some fault was kept
-  pub fault_kept : (x y : Bool) (a b c : Option Fault) → IsLookedAt (IsRight items sort e) (OfMarking items sort e) x a b → IsLookedAt (HasNoVariable e) (IsVariableIn e) y b c → (x ≡ true → y ≡ true → ⊥) → c ≡ None → ⊥
+  pub fault_kept : (x y : Bool) (a b c : Option Fault) → IsExamined (IsRight items sort e) (OfMarking items sort e) x a b → IsExamined (HasNoVariable e) (IsVariableIn e) y b c → (x ≡ true → y ≡ true → ⊥) → c ≡ None → ⊥
   fault_kept x y a b c first second never none = by x y refl refl first.answered second.answered
     where
       by : (v w : Bool) → x ≡ v → y ≡ w → RightOrFault (IsRight items sort e) (OfMarking items sort e) v → RightOrFault (HasNoVariable e) (IsVariableIn e) w → ⊥

@@ -69,6 +69,6 @@ RightOrFault Right Stands true = Right
 RightOrFault Right Stands false = (f : Fault) × Stands f
 
 -- what a look at a term tells: whether it is right, else a fault stands; the least of the faults that stand and of the one so far is kept
-pub record IsLookedAt (Right : Type 0) (Stands : Fault → Type 0) (is_right : Bool) (old new : Option Fault) : Type 0 where
+pub record IsExamined (Right : Type 0) (Stands : Fault → Type 0) (is_right : Bool) (old new : Option Fault) : Type 0 where
   pub answered : RightOrFault Right Stands is_right
   pub least : KeepsLeast Stands old new

@@ -2,7 +2,7 @@
 
 ghost use Rattle.std.specs.Prelude.{◌≡◌, ◌↔◌, List, Some, IfOk, IsTrue, OnOk, codes, true, false};
 ghost use Rattle.std.specs.List.{Contains};
-ghost use Rattle.pn_checks.specs.LabelFaults.{IsLookedAt, IsTruth, IsVariableIn, LabelStands};
+ghost use Rattle.pn_checks.specs.LabelFaults.{IsExamined, IsTruth, IsVariableIn, LabelStands};
 ghost use Rattle.pn_checks.specs.NoValue.{HasNoVariable};
 ghost use Rattle.pn_faults.specs.Least.{lower};
 ghost use Rattle.pn_faults.specs.Order.{fault_at};
@@ -51,7 +51,7 @@ pub(crate) fn keep_at_place(
 ) -> Result<bool, AllocError>
     requires faultless { IsFaultless decls.now }
     requires sound { HasSoundSorts decls.now term.now }
-    ensures { IfOk result (λ is_right. IsLookedAt ((s : TermSort) × HasSort decls.now term.now s × IsTermOver sort.now s)
+    ensures { IfOk result (λ is_right. IsExamined ((s : TermSort) × HasSort decls.now term.now s × IsTermOver sort.now s)
         (LabelStands decls.now (IsTermOver sort.now) label.now term.now) is_right least.old least.new) }
 {
     match keep_term(alloc, decls, term, least)? {
@@ -129,7 +129,7 @@ pub(crate) fn keep_variables(
     term: &Term,
     least: &mut Option<Fault>,
 ) -> Result<bool, AllocError>
-    ensures { IfOk result (λ is_ground. IsLookedAt (HasNoVariable term.now) (IsVariableIn term.now) is_ground least.old least.new) }
+    ensures { IfOk result (λ is_ground. IsExamined (HasNoVariable term.now) (IsVariableIn term.now) is_ground least.old least.new) }
 {
     match &term.node {
         TermNode::Variable(name) => {
@@ -149,7 +149,7 @@ fn keep_all_variables(
     terms: &[Term],
     least: &mut Option<Fault>,
 ) -> Result<bool, AllocError>
-    ensures { IfOk result (λ are_ground. IsLookedAt ((e : Term) → Contains terms.now e → HasNoVariable e) (StandsInSome IsVariableIn terms.now) are_ground least.old least.new) }
+    ensures { IfOk result (λ are_ground. IsExamined ((e : Term) → Contains terms.now e → HasNoVariable e) (StandsInSome IsVariableIn terms.now) are_ground least.old least.new) }
 {
     let mut are_ground = true;
     for term in terms {

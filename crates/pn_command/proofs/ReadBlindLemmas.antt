@@ -159,9 +159,6 @@ term_says e start end number basis sort arguments =
     cond (has_name (codes "partitionelementof") e) (term_nodes.PartitionOf (attribute_of (codes "refpartition") e) (first_term arguments))
     (term_nodes.Apply (operator_named e.name) arguments))))))))))
 
-term_node_is : (e : Element) (arguments : List Term) → term_node e arguments ≡ term_says e (start_in e) (end_in e) (number_sort_in e) (basis_in e) (sort_in e) arguments
-term_node_is e arguments = refl
-
 term_node_bare_is : (e : Element) (arguments : List Term) → term_node (without_offsets e) arguments ≡ term_says e (start_in e) (end_in e) (number_sort_in e) (sort_without_offsets (basis_in e)) (sort_without_offsets (sort_in e)) arguments
 term_node_bare_is e arguments =
     (λ i. term_says (without_offsets_is e i) (start_bare e i) (end_bare e i) (number_sort_bare e i) (basis_in_bare e i) (sort_in_bare e i) arguments)

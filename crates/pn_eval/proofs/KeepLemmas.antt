@@ -24,7 +24,7 @@ use Rattle.pn_terms.specs.Sorts.{Gives, HasSort, HaveSorts, IsOfAll, IsOfConstan
 use Rattle.pn_terms.specs.Terms.{Layer, layer_of, parts_in, parts_of}
 use Rattle.pn_terms.specs.declared.term_sort.TermSort.{TermSort}
 use Rattle.pn_terms.specs.declared.term_sort.TermSort.TheVariants as terms
-use Rattle.pn_terms.proofs.SortLemmas.{first_have, sorts_agree}
+use Rattle.pn_terms.proofs.SortLemmas.{first_have, same_some, sorts_agree}
 use Rattle.pn_terms.proofs.TermLemmas.{out_element}
 use Rattle.pn_values.specs.Kin.{kin_of, kin_step}
 use Rattle.pn_values.specs.Order.{value_cmp}
@@ -47,9 +47,6 @@ use Rattle.pn_eval.proofs.ReadyLemmas.{sorted_layer}
 use Rattle.pn_eval.proofs.RoundLemmas.{small_finite}
 use Rattle.pn_eval.proofs.RowLemmas.{rows_keep_sorts}
 use Rattle.pn_eval.proofs.ValueLemmas.{FirstGives, empty_values, first_gives}
-
-same_some : {A : Type 0} (a b : A) (o : Option A) → o ≡ Some a → o ≡ Some b → a ≡ b
-same_some a b o h k = let same : Some a ≡ Some b = sym h ∙ k in cc
 
 -- an outcome and a sort that are the same as two others
 of_same : (items : List Declaration) (s t : TermSort) (o p : Outcome) → s ≡ t → o ≡ p → IsOutcomeOf items t p → IsOutcomeOf items s o

@@ -34,7 +34,7 @@ use Rattle.pn_syntax.specs.declared.term.TermNode.TheOpen as layer
 use Rattle.pn_terms.specs.Rows.{first_of}
 use Rattle.pn_terms.specs.Terms.{Layer, layer_of, parts_of}
 use Rattle.pn_terms.specs.declared.term_sort.TermSort.{TermSort}
-use Rattle.pn_terms.proofs.SortLemmas.{base_once, same_basis, sorts_agree}
+use Rattle.pn_terms.proofs.SortLemmas.{base_once, same_basis, same_some, sorts_agree}
 use Rattle.pn_values.specs.declared.constant_ref.ConstantRef.{ConstantRef}
 use Rattle.pn_values.specs.declared.sort.Sort.{Sort}
 use Rattle.pn_values.specs.declared.value.Value.{Value}
@@ -43,9 +43,6 @@ use Rattle.pn_eval.specs.Assignments.{value_of_variable}
 use Rattle.pn_eval.specs.Values.{GivesValue, HasValue, HaveValues, IsElementValue, IsRoundFor, none, more}
 use Rattle.pn_eval.proofs.EveryLemmas.{once_each}
 use Rattle.pn_eval.proofs.ValueLemmas.{FirstGives, empty_values, first_gives}
-
-same_some : {A : Type 0} (a b : A) (o : Option A) → o ≡ Some a → o ≡ Some b → a ≡ b
-same_some a b o h k = let same : Some a ≡ Some b = sym h ∙ k in cc
 
 -- ---- one element of a partition lists a value
 

@@ -61,13 +61,3 @@ ready_args items vars e op args ps is given ready p c =
 -- what a layer gives by the sorts of its parts
 pub sorted_layer : (items : List Declaration) (e : Term) (l : Layer) → layer_of e ≡ l → (s : TermSort) × HasSort items e s → (s : TermSort) × (ts : List TermSort) × HaveSorts items (parts_in l) ts × Gives items l ts s
 sorted_layer items e l is (s, (ts, have, gives)) = (s, ts, subst (λ m. HaveSorts items (parts_in m) ts) is have, subst (λ m. Gives items m ts s) is gives)
-
--- a variable that stands in a term is one of those that are given
-pub known_variable : (items : List Declaration) (vars : List ℕ) (e : Term) (name n : List ℕ) → e.node ≡ nodes.Variable name → n ≡ name → IsReady items vars e → (v : ℕ) × (variable_named items n ≡ Some v) × Contains vars v
-known_variable items vars e name n is same ready =
-    let out = out_variable e.node n (is ∙ ap nodes.Variable (sym same)) in
-    let has = sorted_layer items e (layer.Variable n) out ready.sorted in
-    let v = has.3.0 in
-    let named = has.3.2 in
-    let whole : variables_in_term items e ≡ v ∷ [] = variables_at items e ∙ ap (variables_below items) out ∙ ap option_to_list named in
-    (v, named, ready.covers v (subst (λ vs. Contains vs v) (sym whole) (contains_first v [])))

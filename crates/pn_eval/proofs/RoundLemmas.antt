@@ -53,17 +53,6 @@ round_finite items s h = round_at items s (out-Sort s) refl h
 pub round_basis : (items : List Declaration) (e : Term) (sort : Sort) → (s : Sort) × HasSort items e (terms.Basis s) × (is_round items s ≡ true) → HasSort items e (terms.Basis sort) → is_finite sort ≡ true
 round_basis items e sort (s, has, goes) h = round_finite items sort (subst (λ t. is_round items t ≡ true) (same_basis s sort (sort_once items e (terms.Basis s) (terms.Basis sort) has h)) goes)
 
-pub round_no_bag : (items : List Declaration) (e : Term) (sort : Sort) → (s : Sort) × HasSort items e (terms.Basis s) × (is_round items s ≡ true) → HasSort items e (terms.Bag sort) → ⊥
-round_no_bag items e sort (s, has, goes) h = bag_is_no_basis sort s (sort_once items e (terms.Bag sort) (terms.Basis s) h has)
-
-size_at : (b : Bool) (m n : ℕ) → b ≡ true → sizes.Finite n ≡ capped_size (cond b (Some m) None) → n < 2 ^ 32 → cond b (Some m) None ≡ Some n
-size_at true m n finite is small = let same : n ≡ min m (2 ^ 64) = cc in ap Some (omega (arith, same, small))
-size_at false m n finite is small = absurd (false≢true finite)
-
--- a size below the cap is the size
-pub size_is : (widths : List ℕ) (sort : Sort) (n : ℕ) → is_finite sort ≡ true → sizes.Finite n ≡ capped_size (size_of widths sort) → n < 2 ^ 32 → size_of widths sort ≡ Some n
-size_is widths sort n finite is small = size_at (is_finite sort) (length (carrier widths sort)) n finite is small
-
 -- the first of the sorts that fit an operator that goes round is that of a cyclic enumeration
 round_first : (items : List Declaration) (t : TermSort) (ts : List TermSort) → Suit items op.Successor (t ∷ ts) → (s : Sort) × (t ≡ terms.Basis s) × (is_round items s ≡ true)
 round_first items (terms.Basis s) ts suit = (s, refl, and_left (is_round items s) _ suit)
@@ -114,12 +103,3 @@ successor_round items o args x round is (ts, have, fits) first goes =
 pub predecessor_round : (items : List Declaration) (o : Op) (args : List Term) (x : Term) (round : ℕ) → o ≡ op.Predecessor → (h : (ts : List TermSort) × HaveSorts items args ts × Fits items o ts) → x ≡ get_or args 0 x → (s : TermSort) × HasSort items x s × IsRound items s round → GoesRound items o args round
 predecessor_round items o args x round is (ts, have, fits) first goes =
     (ts, have, subst (λ p. IsRoundFor items p (first_of ts) round) (sym is) (same_round items args ts x round (predecessor_first items o args is (ts, have, fits)) first goes))
-
-other_round : (items : List Declaration) (o : Op) (s : TermSort) → (o ≡ op.Successor → ⊥) → (o ≡ op.Predecessor → ⊥) → IsRoundFor items o s 0
-other_round items op.Successor s no_next no_last = absurd (no_next refl)
-other_round items op.Predecessor s no_next no_last = absurd (no_last refl)
-other_round items _ s no_next no_last = refl
-
--- other operators go round at no number
-pub no_round : (items : List Declaration) (o : Op) (args : List Term) → (o ≡ op.Successor → ⊥) → (o ≡ op.Predecessor → ⊥) → (ts : List TermSort) × HaveSorts items args ts × Fits items o ts → GoesRound items o args 0
-no_round items o args no_next no_last (ts, have, fits) = (ts, have, other_round items o (first_of ts) no_next no_last)

@@ -101,12 +101,12 @@ expr_bare (declarations.Named id name (bodies.Cyclic constants) at) = refl
 expr_bare (declarations.Variable id name sort at) = refl
 expr_bare (declarations.Partition id name sort elements at) = refl
 
-base_bare : (d : Declaration) → base_of (declaration_without_offsets d) ≡ option_map sort_without_offsets (base_of d)
+pub base_bare : (d : Declaration) → base_of (declaration_without_offsets d) ≡ option_map sort_without_offsets (base_of d)
 base_bare (declarations.Named id name body at) = refl
 base_bare (declarations.Variable id name sort at) = refl
 base_bare (declarations.Partition id name sort elements at) = refl
 
-elements_bare : (d : Declaration) → elements_of (declaration_without_offsets d) ≡ map element_without_offsets (elements_of d)
+pub elements_bare : (d : Declaration) → elements_of (declaration_without_offsets d) ≡ map element_without_offsets (elements_of d)
 elements_bare (declarations.Named id name body at) = refl
 elements_bare (declarations.Variable id name sort at) = refl
 elements_bare (declarations.Partition id name sort elements at) = refl

@@ -107,7 +107,7 @@ rises_in e rises = rise_rest (e.at ∷ []) (flat_map offsets_of (child_elements 
 rises_kid : (e k : Element) → Rises e → Contains (child_elements e) k → Rises k
 rises_kid e k rises c = rise_one offsets_of (child_elements e) k c (rises_in e rises)
 
-offset_in : (e x : Element) → IsWithin child_elements e x → Contains (offsets_of e) x.at
+pub offset_in : (e x : Element) → IsWithin child_elements e x → Contains (offsets_of e) x.at
 offset_in e x within = place_offset (λ (z : Element). z.at) child_elements offsets_of offsets_law e x within
 
 -- ---- where elements stand

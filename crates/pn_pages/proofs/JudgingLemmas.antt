@@ -56,13 +56,6 @@ use Rattle.pn_pages.proofs.HolderLemmas.{arcs_are, declarations_are, holders_are
 use Rattle.pn_pages.proofs.TellingLemmas.{same_some, tells_alike, tells_both}
 use Rattle.pn_pages.proofs.WireLemmas.{all_wired, rewired, wired}
 
--- nothing is noted yet
-pub nothing_named : (o : Objects) (told : List ℕ → Option First) → ((id : List ℕ) → told id ≡ None) → AreNamed o [] told None
-nothing_named o told none = record {
-  entry = λ id. subst (IsFirstEntry o [] id) (sym (none id)) (λ x has same. contains_nil x has);
-  lowest = λ f d. contains_nil d.first (contains_at [] d.one d.first d.has_first);
-}
-
 -- each reference that is referred to is there
 pub whole_targets : (o : Objects) (hs : List IdHolder) (targets : List (Option Node)) → AllZip (IsTarget o hs) o.references targets → IsWhole (rows_of_targets targets)
 whole_targets o hs targets found = record { ends = λ start end e. step start end e }
@@ -247,13 +240,6 @@ pub flat_arcs_length : (ps : List Place) (ts : List Transition) (arcs : List Arc
 flat_arcs_length ps ts [] ws same = refl
 flat_arcs_length ps ts (a ∷ arcs) [] same = absurd (omega (arith, same))
 flat_arcs_length ps ts (a ∷ arcs) (w ∷ ws) same = ap suc (flat_arcs_length ps ts arcs ws (omega (arith, same)))
-
-pub numbers_are : (outer : Outer) (t : Title) (o : Objects) (ws : List Wire) → length ws ≡ length o.arcs → IsNumbered o → HasNumbers (flat_of outer t o ws)
-numbers_are outer t o ws same is = record {
-  places = is.places;
-  transitions = is.transitions;
-  arcs = omega (arith, is.arcs, flat_arcs_length o.places o.transitions o.arcs ws same);
-}
 
 module _ (n : Net) (o : Objects) (of : AreOfNet n n.id n.at o) (some : 1 ≤ length n.pages) where
   the_flat : List Wire → Flat

@@ -35,14 +35,3 @@ pub followed_at : (n : Net) (o : Objects) (rs : List Reference) (ts : List (Opti
     → (i : ℕ) (r : Reference) → i < length rs → r ≡ get_or rs i r → (t : Option Node) (g : Goal) → FindsNode o (holders_of n) r.refers (get_or ts i t) × TellsEndless n r (get_or gs i g).endless
 followed_at n o rs ts gs followed same also i r small is t g =
     followed i r (get_or ts i t) (get_or gs i g) (stands_at rs rs i r refl small is) (slice_get-get_or ts i t (omega (arith, small, same))) (slice_get-get_or gs i g (omega (arith, small, also)))
-
--- one arc more is made
-pub one_made : (ps : List Place) (ts : List Transition) (all next whole : List FlatArc) (left rest : List Arc) (a : Arc) (ws : List Wire) (i : ℕ) (w : Wire) → left ≡ rest ++ a ∷ [] → length left + i ≡ length ws
-    → next ≡ all ++ flat_arc_of ps ts a (get_or ws i w) ∷ [] → all ++ flat_arcs ps ts (reverse left) (drop i ws) ≡ whole → next ++ flat_arcs ps ts (reverse rest) (drop (i + 1) ws) ≡ whole
-one_made ps ts all next whole left rest a ws i w is sizes made before =
-    let small : i < length ws = omega (arith, sizes, ap length is, length-append rest (a ∷ [])) in
-    let front : reverse left ≡ a ∷ reverse rest = ap reverse is ∙ reverse-append rest (a ∷ []) in
-    let here : drop i ws ≡ get_or ws i w ∷ drop (i + 1) ws = drop_more ws i w small in
-    ap (λ xs. xs ++ flat_arcs ps ts (reverse rest) (drop (i + 1) ws)) made
-    ∙ append_assoc all (flat_arc_of ps ts a (get_or ws i w) ∷ []) (flat_arcs ps ts (reverse rest) (drop (i + 1) ws))
-    ∙ sym (ap (λ xs. all ++ flat_arcs ps ts xs (drop i ws)) front ∙ ap (λ xs. all ++ flat_arcs ps ts (a ∷ reverse rest) xs) here) ∙ before

@@ -64,9 +64,6 @@ low_text [] h = refl
 low_text (x ∷ xs) h =
     let both = and_parts (nat_lt x 0x80 && is_character x) (list_all (λ y. nat_lt y 0x80 && is_character y) xs) h in is_text-append (x ∷ []) xs (whole_text (x ∷ []) both.0) (low_text xs both.1)
 
-pub no_slice : (p : ℕ → Bool) (xs : List ℕ) → IsSlice p (take 0 xs)
-no_slice p xs = record { whole = refl; ordinary = refl }
-
 -- bytes of ASCII
 low_slice : (p : ℕ → Bool) → ((x : ℕ) → p x ≡ true → is_ascii x ≡ true) → (xs : List ℕ) (n : ℕ) → n ≡ prefix_len p xs → IsSlice (or_high p) (take n xs)
 low_slice p ascii xs n is =
@@ -365,14 +362,6 @@ piece_on b bs at m n e =
     append_assoc b (take at bs) (take n (take m (drop at bs))) ∙ ap (λ l. b ++ l) (ap (λ l. take at bs ++ take n l) (rest_whole bs at m e) ∙ take_on bs at n)
 
 -- the name of an end tag
-
--- one byte more is the same
-pub same_on : (piece wanted : List ℕ) (at : ℕ) (x : ℕ) → take at piece ≡ take at wanted → slice_get piece at ≡ Some x → slice_get wanted at ≡ Some x → take (at + 1) piece ≡ take (at + 1) wanted
-same_on piece wanted at x same p w = take_got piece at x p ∙ ap (λ l. l ++ (x ∷ [])) same ∙ sym (take_got wanted at x w)
-
--- what is the same is so at the front
-pub same_front : (piece wanted : List ℕ) (at n : ℕ) → n ≤ at → take at piece ≡ take at wanted → take n piece ≡ take n wanted
-same_front piece wanted at n le same = sym (take-take n at piece le) ∙ ap (take n) same ∙ take-take n at wanted le
 
 drop_next : (l : List ℕ) (i x : ℕ) (t : List ℕ) → drop i l ≡ x ∷ t → (slice_get l i ≡ Some x) × (drop (suc i) l ≡ t)
 drop_next [] zero x t h = absurd (no_head x t h)

@@ -103,7 +103,7 @@ parts_bare (layer.Apply op args) = refl
 layers_alike : (e other : Term) → term_without_offsets e ≡ term_without_offsets other → bare_layer (layer_of e) ≡ bare_layer (layer_of other)
 layers_alike e other alike = sym (layer_bare e) ∙ ap layer_of alike ∙ layer_bare other
 
-parts_alike : (e other : Term) → term_without_offsets e ≡ term_without_offsets other → map term_without_offsets (parts_of e) ≡ map term_without_offsets (parts_of other)
+pub parts_alike : (e other : Term) → term_without_offsets e ≡ term_without_offsets other → map term_without_offsets (parts_of e) ≡ map term_without_offsets (parts_of other)
 parts_alike e other alike = sym (parts_bare (layer_of e)) ∙ ap parts_in (layers_alike e other alike) ∙ parts_bare (layer_of other)
 
 -- the first layer is the second without offsets, but for the parts

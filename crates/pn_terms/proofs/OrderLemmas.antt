@@ -51,7 +51,7 @@ one_term : (e x y : Term) → IsOrdered e → IsPart e x → IsPart e y → x.at
 one_term e x y ordered part also = one_place (λ z. z.at) parts_of offsets_of offsets_at e x y ordered (within e x part) (within e y also)
 
 -- a node has one fault
-one_at : (items : List Declaration) (x : Term) (f g : Fault) → StandsAt items x f → StandsAt items x g → g ≡ f
+pub one_at : (items : List Declaration) (x : Term) (f g : Fault) → StandsAt items x f → StandsAt items x g → g ≡ f
 one_at items x f g (inl h) (inl k) = always_once items (layer_of x) x.at f g h k
 one_at items x f g (inl h) (inr (ts, have, k)) = absurd (always_not_with items (layer_of x) ts x.at f g h k)
 one_at items x f g (inr (ts, have, h)) (inl k) = absurd (always_not_with items (layer_of x) ts x.at g f k h)

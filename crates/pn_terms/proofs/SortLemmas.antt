@@ -25,7 +25,7 @@ use Rattle.pn_terms.specs.Sorts.{Gives, HasSort, HaveSorts, none, more, is_small
 use Rattle.pn_terms.specs.Standing.{StandsAlways, StandsWith, StandsAt, StandsIn}
 use Rattle.pn_terms.specs.Terms.{IsPart, itself, inside, Layer, layer_of, parts_of}
 
-same_some : {A : Type 0} (a b : A) (o : Option A) → o ≡ Some a → o ≡ Some b → a ≡ b
+pub same_some : {A : Type 0} (a b : A) (o : Option A) → o ≡ Some a → o ≡ Some b → a ≡ b
 same_some a b o h k = let same : Some a ≡ Some b = sym h ∙ k in cc
 
 some_is_not_none : {A : Type 0} (a : A) (o : Option A) → o ≡ Some a → o ≡ None → ⊥

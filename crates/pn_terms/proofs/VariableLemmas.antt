@@ -13,7 +13,7 @@ use Rattle.pn_terms.specs.Variables.{variables_in_layer, variables_in_term}
 use Rattle.pn_faults.proofs.RisingLemmas.{all_joined}
 use Rattle.pn_terms.proofs.TermLemmas.{out_apply}
 
-variables_at : (items : List Declaration) (e : Term) (l : Layer) → layer_of e ≡ l
+pub variables_at : (items : List Declaration) (e : Term) (l : Layer) → layer_of e ≡ l
     → variables_in_term items e ≡ variables_in_layer items (map-TermNode TermNode Term (List ℕ) (List ℕ) (fold-TermNode (List ℕ) (List ℕ) (variables_in_layer items) (λ e. e.node)) (variables_in_term items) l)
 variables_at items e l is =
     fold_out-Term (List ℕ) (List ℕ) (variables_in_layer items) (λ e. e.node) e
