@@ -141,10 +141,6 @@ SaysOnce SaysMultiset = (e : Term) (b c : List (Value × ℕ)) → SaysMultiset 
 pub says_once : (items : List Declaration) → ((e : Term) (o p : Outcome) → HasValue items [] [] e o → HasValue items [] [] e p → o ≡ p) → SaysOnce (SaysMultiset items)
 says_once items once e b c (o, value, is) (p, also, that) = let both : Some b ≡ Some c = sym is ∙ ap said_by (once e o p value also) ∙ that in cc
 
-    by : (o : Option Place) → IsMarked S m i o → IsMarked T m i o
-    by None is = is
-    by (Some p) (b, is, stand) = (b, first (said p.hl_marking) (said p.marking) b is, stand)
-
 module _ (SaysMultiset : Term → List (Value × ℕ) → Type 0) (once : SaysOnce SaysMultiset) where
   first_once : (term : Option Term) (number : Option ℕ) (b c : List (Value × ℕ)) → IsFirstBy SaysMultiset term number b → IsFirstBy SaysMultiset term number c → b ≡ c
   first_once None None b c first also = first ∙ sym also

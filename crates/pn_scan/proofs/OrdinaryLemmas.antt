@@ -64,6 +64,9 @@ low_text [] h = refl
 low_text (x ∷ xs) h =
     let both = and_parts (nat_lt x 0x80 && is_character x) (list_all (λ y. nat_lt y 0x80 && is_character y) xs) h in is_text-append (x ∷ []) xs (whole_text (x ∷ []) both.0) (low_text xs both.1)
 
+pub no_slice : (p : ℕ → Bool) (xs : List ℕ) → IsSlice p (take 0 xs)
+no_slice p xs = record { whole = refl; ordinary = refl }
+
 -- bytes of ASCII
 low_slice : (p : ℕ → Bool) → ((x : ℕ) → p x ≡ true → is_ascii x ≡ true) → (xs : List ℕ) (n : ℕ) → n ≡ prefix_len p xs → IsSlice (or_high p) (take n xs)
 low_slice p ascii xs n is =
