@@ -27,7 +27,8 @@ use Rattle.pn_terms.specs.declared.term_sort.TermSort.{TermSort}
 use Rattle.pn_values.specs.declared.sort.Sort.TheVariants as sorts
 use Rattle.pn_values.specs.declared.value.Value.TheVariants as values
 use Rattle.pn_checks.proofs.DeclarationAlikeLemmas.{base_alike, names_same, widths_same}
-use Rattle.pn_checks.proofs.TermAlikeLemmas.{TellsTermLayer, part_alike, parts_alike, told}
+use Rattle.pn_terms.proofs.OffsetLemmas.{parts_alike}
+use Rattle.pn_checks.proofs.TermAlikeLemmas.{TellsTermLayer, part_alike, told}
 
 module _ (items others : List Declaration) (same : map declaration_without_offsets items ≡ map declaration_without_offsets others) where
   -- terms that are equal but for offsets have the same sorts
