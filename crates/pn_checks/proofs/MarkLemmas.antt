@@ -12,7 +12,7 @@ use Rattle.pn_bag.specs.Counts.{Every, IsMultiset, IsSame, count_in, count_of}
 use Rattle.pn_bag.specs.declared.TheConstants.{MAX_COUNT}
 use Rattle.pn_checks.specs.Initial.{AreMarked, IsFirstBy, IsFirstOf, IsInitial, IsMarked, SaysNothing, token}
 use Rattle.pn_checks.specs.NoValue.{SaysMultiset}
-use Rattle.pn_checks.specs.NoValue.{multiset_of as said_by}
+use Rattle.pn_eval.specs.Outcomes.{multiset_of as said_by}
 use Rattle.pn_eval.specs.Values.{HasValue}
 use Rattle.pn_operations.specs.declared.outcome.Outcome.{Outcome}
 use Rattle.pn_syntax.specs.declared.declaration.Declaration.{Declaration}

@@ -11,7 +11,8 @@ use Rattle.pn_faults.specs.Walks.{KeepsLeast}
 use Rattle.pn_faults.proofs.WalkLemmas.{keeps_alike, keeps_both, keeps_nothing, keeps_one}
 use Rattle.pn_checks.specs.Initial.{IsFirstBy}
 use Rattle.pn_checks.specs.LabelFaults.{AtPlaceStands, InscriptionStands, IsExamined, IsVariableIn, LabelStands, MarkingStands, RightOrFault}
-use Rattle.pn_checks.specs.NoValue.{AreOfSort, HasNoVariable, IsNoValueOf, LacksValue, SaysMultiset, multiset_of}
+use Rattle.pn_checks.specs.NoValue.{AreOfSort, HasNoVariable, IsNoValueOf, LacksValue, SaysMultiset}
+use Rattle.pn_eval.specs.Outcomes.{multiset_of}
 use Rattle.pn_checks.specs.Tokens.{Gets, HasTokens, HasTokensBy, number_tokens}
 use Rattle.pn_eval.specs.Values.{HasValue}
 use Rattle.pn_net.specs.Labels.{IsPlaceSort, IsSortBy, said}

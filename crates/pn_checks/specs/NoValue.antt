@@ -2,6 +2,7 @@
 use Rattle.std.specs.Prelude.{◌≡◌, ℕ, List, [], ◌∷◌, codes, Option, None, Some}
 use Rattle.std.specs.List.{AllByRecursion, Contains}
 use Rattle.pn_carriers.specs.Members.{IsMember}
+use Rattle.pn_eval.specs.Outcomes.{multiset_of}
 use Rattle.pn_eval.specs.Values.{HasValue}
 use Rattle.pn_faults.specs.declared.fault.Fault.{Fault}
 use Rattle.pn_faults.specs.declared.reason.Reason.TheVariants as reasons
@@ -13,7 +14,6 @@ use Rattle.pn_net.specs.Typing.{IsTermOver}
 use Rattle.pn_objects.specs.declared.net.Net.{Net}
 use Rattle.pn_objects.specs.declared.object.Place.{Place}
 use Rattle.pn_operations.specs.declared.outcome.Outcome.{Outcome}
-use Rattle.pn_operations.specs.declared.outcome.Outcome.TheVariants as outcomes
 use Rattle.pn_syntax.specs.declared.declaration.Declaration.{Declaration}
 use Rattle.pn_syntax.specs.declared.term.Term.{Term}
 use Rattle.pn_syntax.specs.declared.term.TermNode.TheVariants as nodes
@@ -22,12 +22,6 @@ use Rattle.pn_terms.specs.Sorts.{HasSort}
 use Rattle.pn_terms.specs.Terms.{IsPart}
 use Rattle.pn_values.specs.declared.sort.Sort.{Sort}
 use Rattle.pn_values.specs.declared.value.Value.{Value}
-
--- the multiset for which an outcome stands where a label wants one: a value stands for itself once
-abbrev pub multiset_of : Outcome → Option (List (Value × ℕ))
-multiset_of (outcomes.Value v) = Some ((v, 1) ∷ [])
-multiset_of (outcomes.Bag bag) = Some bag
-multiset_of outcomes.NoValue = None
 
 -- a term without variables says this multiset
 abbrev pub SaysMultiset : List Declaration → Term → List (Value × ℕ) → Type 0

@@ -2,7 +2,8 @@
 use Rattle.std.specs.Prelude.{◌≡◌, ◌≤◌, ◌+◌, ℕ, List, [], ◌∷◌, Option, None, Some, IfSome}
 use Rattle.pn_bag.specs.Counts.{count_of}
 use Rattle.pn_checks.specs.Initial.{token}
-use Rattle.pn_checks.specs.NoValue.{AreOfSort, multiset_of}
+use Rattle.pn_checks.specs.NoValue.{AreOfSort}
+use Rattle.pn_eval.specs.Outcomes.{multiset_of}
 use Rattle.pn_net.specs.Orders.{token_cmp}
 use Rattle.pn_net.specs.declared.token.Token.{Token}
 use Rattle.pn_operations.specs.declared.outcome.Outcome.{Outcome}

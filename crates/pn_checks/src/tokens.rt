@@ -4,7 +4,8 @@ ghost use Rattle.std.specs.Prelude.{◌≡◌, ◌+◌, ◌≤◌, ◌↔◌, []
 ghost use Rattle.pn_bag.specs.Counts.{count_in, count_of};
 ghost use Rattle.pn_bag.specs.declared.TheConstants.{MAX_COUNT};
 ghost use Rattle.pn_checks.specs.Initial.{token};
-ghost use Rattle.pn_checks.specs.NoValue.{AreOfSort, multiset_of};
+ghost use Rattle.pn_checks.specs.NoValue.{AreOfSort};
+ghost use Rattle.pn_eval.specs.Outcomes.{multiset_of};
 ghost use Rattle.pn_checks.specs.Tokens.{Gets, HasTokens, IsEmptyAt, KeepsOthers, number_tokens};
 ghost use Rattle.pn_net.specs.Labels.{said};
 ghost use Rattle.pn_net.specs.Orders.{token_cmp};

@@ -1,5 +1,5 @@
--- Which outcomes are of the sort of a term.
-use Rattle.std.specs.Prelude.{List}
+-- Which outcomes are of the sort of a term, and for which multisets they stand.
+use Rattle.std.specs.Prelude.{ℕ, List, [], ◌∷◌, Option, None, Some}
 use Rattle.pn_bag.specs.Bag.{IsBag}
 use Rattle.pn_bag.specs.Counts.{Every}
 use Rattle.pn_carriers.specs.Members.{IsMember}
@@ -10,6 +10,7 @@ use Rattle.pn_syntax.specs.declared.declaration.Declaration.{Declaration}
 use Rattle.pn_terms.specs.declared.term_sort.TermSort.{TermSort}
 use Rattle.pn_terms.specs.declared.term_sort.TermSort.TheVariants as terms
 use Rattle.pn_values.specs.Order.{value_cmp}
+use Rattle.pn_values.specs.declared.value.Value.{Value}
 
 -- a value of the basis sort, a multiset of values of it, or none, which is of each sort
 abbrev pub IsOutcomeOf : List Declaration → TermSort → Outcome → Type 0
@@ -18,3 +19,9 @@ IsOutcomeOf items (terms.Basis s) (outcomes.Value v) = IsMember (widths_of items
 IsOutcomeOf items (terms.Basis s) (outcomes.Bag bag) = ⊥
 IsOutcomeOf items (terms.Bag s) (outcomes.Value v) = ⊥
 IsOutcomeOf items (terms.Bag s) (outcomes.Bag bag) = IsBag value_cmp bag × Every (λ entry. IsMember (widths_of items) entry.0 s) bag
+
+-- the multiset for which an outcome stands where a label wants one: a value stands for itself once
+abbrev pub multiset_of : Outcome → Option (List (Value × ℕ))
+multiset_of (outcomes.Value v) = Some ((v, 1) ∷ [])
+multiset_of (outcomes.Bag bag) = Some bag
+multiset_of outcomes.NoValue = None

@@ -1,6 +1,6 @@
 use Rattle.std.proofs.Common.{IfSome, sym, subst}
 use Rattle.pn_facts.proofs.Results.{on_ok}
-use Rattle.pn_checks.specs.NoValue.{multiset_of}
+use Rattle.pn_eval.specs.Outcomes.{multiset_of}
 use Rattle.pn_checks.specs.Tokens.{Gets}
 use Rattle.pn_checks.proofs.TokenLemmas.{added_gets, added_others}
 use Rattle.pn_checks.proofs.tokens.put_outcome.Goals as goal
