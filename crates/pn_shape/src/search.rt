@@ -8,6 +8,7 @@ ghost use Rattle.std.specs.Option.{option_or};
 ghost use Rattle.pn_shape.specs.declared.rule.Fill.TheVariants.{Sort, Term};
 
 use crate::rows::{CONSTANTS, ENUMERATIONS, LEAVES, MULTISETS, NUMBER_SORTS, OPAQUE_TAGS, SORTS};
+use crate::table::name_of;
 use crate::{AttrName, Fill, Kinds, Slot, Tag, rule_of};
 use pn_operators::{Kind, find_op};
 
@@ -62,7 +63,7 @@ pub fn fill_word(fill: Fill) -> &'static str
     ensures { result.now ≡ fill_name fill }
 {
     match fill {
-        Fill::One(tag) => rule_of(tag).name,
+        Fill::One(tag) => name_of(tag),
         Fill::Opaque => "graphics",
         Fill::Sort => "sort",
         Fill::Term => "term",
@@ -77,8 +78,7 @@ pub fn fill_word(fill: Fill) -> &'static str
 fn has_name(kind: Kind, name: &str, tag: Tag) -> bool
     ensures { result ≡ is_named kind name.now tag }
 {
-    let rule = rule_of(tag);
-    rule.name == name && rule.kinds.have(kind)
+    name_of(tag) == name && rule_of(tag).kinds.have(kind)
 }
 
 /// The first of these elements that nets of this kind have and that has this name.
