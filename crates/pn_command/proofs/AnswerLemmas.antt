@@ -66,6 +66,15 @@ due_for_words words asked bytes a asks h = record {
 pub said_for_words : (words : List (List ℕ)) (asked : Asked) (bytes : List ℕ) (d : Due) → asked_of words ≡ Some asked → SaysSuch (IsDueFor asked bytes) d → SaysSuch (IsTheDue words bytes) d
 said_for_words words asked bytes d asks said = (said.0, said.1, due_for_words words asked bytes said.0 asks said.2)
 
+-- where the words ask for nothing
+pub said_for_none : (words : List (List ℕ)) (bytes : List ℕ) → asked_of words ≡ None → SaysSuch (IsTheDue words bytes) usage_due
+said_for_none words bytes asks = (
+  usage_answer,
+  refl,
+  record {
+    is = subst (λ o. MatchOption o (usage_answer ≡ usage_answer) (λ x. IsDueFor x bytes usage_answer)) (sym asks) refl;
+    only = λ other it. subst (λ o. MatchOption o (other ≡ usage_answer) (λ x. IsDueFor x bytes other)) asks it;
+  },
 )
 
 -- what holds of all that is said holds of each answer that is due, and of the one
