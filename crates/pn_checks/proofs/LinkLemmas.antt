@@ -11,10 +11,10 @@ use Rattle.pn_faults.proofs.LeastLemmas.{first-from_least_fault, not_before_itse
 use Rattle.pn_faults.specs.declared.fault.Refusal.{Refusal}
 use Rattle.pn_checks.specs.Linked.{IsLeastInTree, IsLinked}
 use Rattle.pn_checks.specs.Verdicts.{IsFaultOf, in_tree, no_value}
-use Rattle.pn_net.specs.Documents.{HasNoShapeFault, HasSoundLinks, StandsInTree, links, shape, sorts, typing}
+use Rattle.pn_net.specs.Documents.{HasNoShapeFault, HasSoundLinks, IsWellTyped, StandsInTree, links, shape, sorts, typing}
 use Rattle.pn_net.specs.Flattening.{IsFlattened, net_of_flat}
 use Rattle.pn_net.specs.Links.{StandsInLinks}
-use Rattle.pn_net.specs.Typed.{HasNumbers, IsWired}
+use Rattle.pn_net.specs.Typed.{HasNumbers, IsTyped, IsWired}
 use Rattle.pn_net.specs.declared.flat.Flat.{Flat}
 use Rattle.pn_net.specs.declared.flat.FlatArc.{FlatArc}
 use Rattle.pn_objects.specs.declared.net.Net.{Net}
@@ -97,3 +97,10 @@ module _ (tree : Element) where
     numbers = numbers;
     writable = writable writes;
   }
+
+-- a flat net without a fault is that of a document
+pub is_typed : (tree : Element) (f : Flat) → IsLinked tree f → IsWellTyped tree → IsTyped f
+is_typed tree f linked well = record {
+  wired = linked.wired;
+  document = record { tree = tree; is_tree = linked.is_tree; well_typed = well; net = net_of_flat f; is_flat = linked.is_flat; same = refl };
+}

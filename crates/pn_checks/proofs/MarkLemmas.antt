@@ -1,5 +1,5 @@
 -- How the initial marking grows, place by place.
-use Rattle.std.proofs.Common.{◌≡◌, ◌<◌, ◌≤◌, ◌+◌, ◌⊎◌, inl, inr, ℕ, zero, suc, List, [], ◌∷◌, ◌++◌, length, take, Option, None, Some, IfSome, refl, sym, ap, ◌∙◌, subst, arith}
+use Rattle.std.proofs.Common.{◌≡◌, ◌<◌, ◌≤◌, ◌+◌, ◌⊎◌, inl, inr, ℕ, zero, suc, List, [], ◌∷◌, ◌++◌, length, take, Option, None, Some, refl, sym, ap, ◌∙◌, subst, arith}
 use Rattle.std.specs.List.{slice_get}
 use Rattle.std.specs.Ordering.{match_ordering, nat_cmp, ordering_then}
 use Rattle.std.specs.declared.cmp.Ordering.{Ordering}
@@ -10,14 +10,12 @@ use Rattle.std.proofs.lemmas.Option.{slice_get_past, slice_get_within}
 use Rattle.pn_bag.specs.Bag.{IsBag}
 use Rattle.pn_bag.specs.Counts.{Every, IsMultiset, IsSame, count_in, count_of}
 use Rattle.pn_bag.specs.declared.TheConstants.{MAX_COUNT}
-use Rattle.pn_checks.specs.Initial.{AreMarked, IsFirstBy, IsFirstOf, IsInitial, IsMarked, SaysNothing, token}
+use Rattle.pn_checks.specs.Initial.{AreMarked, IsFirstBy, IsFirstOf, IsInitial, IsMarked, token}
 use Rattle.pn_checks.specs.NoValue.{SaysMultiset}
 use Rattle.pn_eval.specs.Outcomes.{multiset_of as said_by}
 use Rattle.pn_eval.specs.Values.{HasValue}
 use Rattle.pn_operations.specs.declared.outcome.Outcome.{Outcome}
 use Rattle.pn_syntax.specs.declared.declaration.Declaration.{Declaration}
-use Rattle.pn_checks.specs.Plain.{ArePlain, IsPlainPlace}
-use Rattle.pn_facts.proofs.Contained.{contains_at}
 use Rattle.pn_facts.proofs.Lists.{take_got}
 use Rattle.pn_net.specs.Labels.{said}
 use Rattle.pn_net.specs.Orders.{token_cmp}
@@ -27,7 +25,6 @@ use Rattle.pn_objects.specs.declared.object.Place.{Place}
 use Rattle.pn_syntax.specs.declared.term.Term.{Term}
 use Rattle.pn_values.specs.Order.{value_cmp}
 use Rattle.pn_values.specs.declared.value.Value.{Value}
-use Rattle.pn_values.specs.declared.value.Value.TheVariants as values
 
 -- a token of one place counts for the tokens of that place alone
 pub same_place : (i n : ℕ) (v w : Value) → count_in token_cmp (token i w, n) (token i v) ≡ count_in value_cmp (w, n) v
@@ -97,39 +94,6 @@ module _ (SaysMultiset : Term → List (Value × ℕ) → Type 0) (old new : Lis
         where
           past : slice_get (front ++ p ∷ []) j ≡ None
           past = slice_get_past (front ++ p ∷ []) j (omega (arith, length-append front (p ∷ []), more, size))
-
--- no token stands on the next place yet
-pub next_empty : (SaysMultiset : Term → List (Value × ℕ) → Type 0) (places : List Place) (i : ℕ) (m : List (Token × ℕ)) (v : Value) → i ≤ length places → AreMarked SaysMultiset (take i places) m → count_of token_cmp m (token i v) ≡ 0
-next_empty SaysMultiset places i m v within marked =
-    let size = length-take-le i places within in
-    (subst (IsMarked SaysMultiset m i) (slice_get_past (take i places) i (omega (arith, size))) (marked i)) v
-
--- ---- places that say no terms
-
-module _ (places : List Place) (i : ℕ) (p : Place) (at : slice_get places i ≡ Some p) (plain : ArePlain places) (old : List (Token × ℕ)) (marked : AreMarked SaysNothing (take i places) old) where
-  is_plain : IsPlainPlace p
-  is_plain = plain p (contains_at places i p at)
-
-  first_by : (number : Option ℕ) (bag : List (Value × ℕ)) → said p.marking ≡ number → IsFirstBy SaysNothing None number bag → IsFirstOf SaysNothing p bag
-  first_by number bag is first = subst (λ o. IsFirstBy SaysNothing o (said p.marking) bag) (sym is_plain.no_term) (subst (λ o. IsFirstBy SaysNothing None o bag) (sym is) first)
-
-  -- where a place has no number, nothing is put on it
-  pub nothing_put : said p.marking ≡ None → AreMarked SaysNothing (take (i + 1) places) old
-  nothing_put none = next_marked SaysNothing old old places i p [] at (first_by None [] none refl) marked (λ v. omega arith) (λ j v differ. refl)
-
-  pub dots_put : (n : ℕ) (new : List (Token × ℕ)) → said p.marking ≡ Some n → ((other : Token) → count_of token_cmp new other ≡ count_of token_cmp old other + count_in token_cmp (token i values.Dot, n) other)
-      → AreMarked SaysNothing (take (i + 1) places) new
-  dots_put n new is counts =
-      next_marked SaysNothing old new places i p ((values.Dot, n) ∷ []) at (first_by (Some n) ((values.Dot, n) ∷ []) is refl) marked
-      (λ v. omega (arith, counts (token i v), same_place i n v values.Dot))
-      (λ j v differ. omega (arith, counts (token j v), other_place j i n v values.Dot differ))
-
-  -- so many can be put there
-  pub room_there : (n : ℕ) → said p.marking ≡ Some n → count_of token_cmp old (token i values.Dot) + n ≤ MAX_COUNT
-  room_there n is =
-      let small : n ≤ MAX_COUNT = subst (λ o. IfSome o (λ n. n ≤ MAX_COUNT)) is is_plain.counted in
-      let within : i < length places = slice_get_within places i p at in
-      omega (arith, small, next_empty SaysNothing places i old values.Dot (omega (arith, within)) marked)
 
 -- ---- one initial marking
 

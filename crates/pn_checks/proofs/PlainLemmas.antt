@@ -1,35 +1,28 @@
 -- In a place/transition net no fault of sorts or of typing can stand: it has no declarations, no types and no terms.
-use Rattle.std.proofs.Common.{◌≡◌, ◌≤◌, ◌⊎◌, ℕ, zero, suc, true, false, List, [], ◌∷◌, ◌++◌, Option, None, Some, IfSome, refl, sym, ap, ◌∙◌, subst, arith}
+use Rattle.std.proofs.Common.{◌≡◌, ℕ, zero, suc, true, false, List, [], ◌∷◌, ◌++◌, Option, None, Some, IfSome, refl, sym, ap, ◌∙◌, subst}
 use Rattle.std.specs.List.{AllByRecursion, Contains, cons_option, filter_map, flat_map}
-use Rattle.pn_bag.specs.declared.TheConstants.{MAX_COUNT}
 use Rattle.pn_facts.proofs.Each.{one_of}
 use Rattle.pn_facts.proofs.Contained.{contains_nil}
 use Rattle.pn_faults.specs.declared.fault.Fault.{Fault}
-use Rattle.pn_checks.proofs.FlatLemmas.{flat_all, flat_declarations, flat_kind, flat_places_are}
+use Rattle.pn_checks.proofs.FlatLemmas.{flat_all}
 use Rattle.pn_shape.proofs.WrittenLemmas.{both_all}
 use Rattle.pn_pages.proofs.GatherLemmas.{own_layer, page_law}
-use Rattle.pn_checks.specs.Linked.{IsLinked}
-use Rattle.pn_checks.specs.Plain.{ArePlain, IsPlainPlace}
 use Rattle.pn_checks.specs.NoValue.{IsNoValue}
 use Rattle.pn_checks.specs.Verdicts.{IsAccepted, in_tree, no_value}
 use Rattle.pn_net.specs.Documents.{HasSoundLinks, IsWellTyped, StandsInTree, links, shape, sorts, typing}
-use Rattle.pn_net.specs.Flattening.{net_of_flat}
 use Rattle.pn_net.specs.Labels.{condition_terms, inscription_terms, marking_terms, net_terms, said, type_exprs}
 use Rattle.pn_net.specs.Objects.{declared_by, in_page, in_pages, net_arcs, net_declarations, net_places, net_transitions}
-use Rattle.pn_net.specs.Typed.{IsTyped}
 use Rattle.pn_net.specs.Typing.{StandsInSorts, StandsInTyping, declared, of_type, of_term, of_constant, of_condition, of_marking, of_inscription, not_ground}
-use Rattle.pn_net.specs.declared.flat.Flat.{Flat}
 use Rattle.pn_objects.specs.declared.label.Label.{Label}
 use Rattle.pn_objects.specs.declared.net.Net.{Net}
 use Rattle.pn_objects.specs.declared.net.Page.{Page}
 use Rattle.pn_objects.specs.declared.net.Page.TheOpen as layer
 use Rattle.pn_objects.specs.declared.net.Page.TheViews.{out-Page}
-use Rattle.pn_objects.specs.declared.object.Place.{Place}
 use Rattle.pn_operators.specs.declared.kind.Kind.{Kind}
 use Rattle.pn_operators.specs.declared.kind.Kind.TheVariants as kind
 use Rattle.pn_resolve.specs.Standing.{StandsBesides, in_sort, sort_cycle, constant_range}
 use Rattle.pn_round_trip.proofs.NetLaws.{net_spellable}
-use Rattle.pn_round_trip.specs.Spellable.{IsCountLabel, IsHadWith, IsSpellableArc, IsSpellableDeclaration, IsSpellableLabel, IsSpellableNet, IsSpellablePage, IsSpellablePlace, IsSpellableTransition, IsSpellableWith, IsSpelledSort, IsSpelledTerm}
+use Rattle.pn_round_trip.specs.Spellable.{IsHadWith, IsSpellableArc, IsSpellableDeclaration, IsSpellableLabel, IsSpellableNet, IsSpellablePage, IsSpellablePlace, IsSpellableTransition, IsSpellableWith, IsSpelledSort, IsSpelledTerm}
 use Rattle.pn_shape.specs.Rules.{is_had, rule_for}
 use Rattle.pn_shape.specs.declared.tag.Tag.{Tag}
 use Rattle.pn_shape.specs.declared.tag.Tag.TheVariants as tag
@@ -161,16 +154,6 @@ module _ (n : Net) (is_plain : n.kind ≡ kind.PtNet) (such : IsSpellableNet n) 
   all_have_values f is = let none = unsaid tag.HlInitialMarking (IsSpellableLabel (IsSpelledTerm kind.PtNet)) no_marking is.place.hl_marking (one_of (IsSpellablePlace kind.PtNet) (net_places n) is.place places is.stands).hl_marking in
       let no : None ≡ Some is.term = sym none ∙ is.is_marking in cc
 
-  plain_place : (p : Place) → IsSpellablePlace kind.PtNet p → IsPlainPlace p
-  plain_place p is = record { no_term = unsaid tag.HlInitialMarking (IsSpellableLabel (IsSpelledTerm kind.PtNet)) no_marking p.hl_marking is.hl_marking; counted = count p.marking is.marking }
-    where
-      count : (l : Option (Label ℕ)) → IfSome l (IsHadWith kind.PtNet tag.InitialMarking (IsCountLabel 0)) → IfSome (said l) (λ n. n ≤ MAX_COUNT)
-      count None is = tt
-      count (Some l) is = omega (arith, is.1.value.1)
-
-  pub are_plain : ArePlain (net_places n)
-  are_plain p has = plain_place p (one_of (IsSpellablePlace kind.PtNet) (net_places n) p places has)
-
 -- a place/transition net without a fault of shape or of ids and links has none
 pub plain_well_typed : (tree : Element) → HasSoundLinks tree → (net_of tree).kind ≡ kind.PtNet → IsWellTyped tree
 plain_well_typed tree sound is_plain f stands = by stands
@@ -187,28 +170,3 @@ plain_well_typed tree sound is_plain f stands = by stands
 pub plain_accepted : (tree : Element) → HasSoundLinks tree → (net_of tree).kind ≡ kind.PtNet → IsAccepted tree
 plain_accepted tree sound is_plain f (in_tree _ there) = plain_well_typed tree sound is_plain f there
 plain_accepted tree sound is_plain f (no_value _ fine there) = all_have_values (net_of tree) is_plain (net_spellable tree (net_of tree) sound.spells refl) f there
-
--- ---- the flat net of such a net
-
--- a flat net without a fault is that of a document
-pub is_typed : (tree : Element) (f : Flat) → IsLinked tree f → IsWellTyped tree → IsTyped f
-is_typed tree f linked well = record {
-  wired = linked.wired;
-  document = record { tree = tree; is_tree = linked.is_tree; well_typed = well; net = net_of_flat f; is_flat = linked.is_flat; same = refl };
-}
-
-module _ (tree : Element) (f : Flat) (linked : IsLinked tree f) (plain_kind : f.kind ≡ kind.PtNet) where
-  is_plain : (net_of tree).kind ≡ kind.PtNet
-  is_plain = sym (flat_kind (net_of tree) f linked.is_flat) ∙ plain_kind
-
-  such_net : IsSpellableNet (net_of tree)
-  such_net = net_spellable tree (net_of tree) linked.sound.spells refl
-
-  pub flat_plain : ArePlain f.places
-  flat_plain = subst ArePlain (sym (flat_places_are (net_of tree) f linked.is_flat)) (are_plain (net_of tree) is_plain such_net)
-
-  pub flat_bare : f.declarations ≡ []
-  flat_bare = flat_declarations (net_of tree) f linked.is_flat ∙ no_declarations (net_of tree) is_plain such_net
-
-  pub flat_typed : IsTyped f
-  flat_typed = is_typed tree f linked (plain_well_typed tree linked.sound is_plain)

@@ -40,10 +40,6 @@ IsMarked SaysMultiset m i (Some p) = (bag : List (Value × ℕ)) × IsFirstOf Sa
 abbrev pub AreMarked : (Term → List (Value × ℕ) → Type 0) → List Place → List (Token × ℕ) → Type 0
 AreMarked SaysMultiset places m = (i : ℕ) → IsMarked SaysMultiset m i (slice_get places i)
 
--- no term says anything: so it is in place/transition nets, which have none
-abbrev pub SaysNothing : Term → List (Value × ℕ) → Type 0
-SaysNothing e bag = ⊥
-
 -- the multiset is the initial marking of the flat net
 pub record IsInitial (f : Flat) (m : List (Token × ℕ)) : Type 0 where
   pub bag : IsBag token_cmp m

@@ -2,7 +2,6 @@ pub mod NoValue
 pub mod Verdicts
 pub mod Linked
 pub mod Initial
-pub mod Plain
 pub mod Sorts
 pub mod Told
 pub mod LabelFaults

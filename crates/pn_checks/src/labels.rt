@@ -40,7 +40,7 @@ pub(crate) fn keep_condition(
 }
 
 /// The same of a term at a place of this sort, in a label of this name: its own, and that it is
-/// neither a value of the place's kin nor a multiset of such. SaysMultiset whether it is.
+/// neither a value of the place's kin nor a multiset of such. Says whether it is.
 pub(crate) fn keep_at_place(
     alloc: Global,
     decls: &Decls,
@@ -121,7 +121,7 @@ fn is_over(alloc: Global, sort: &Sort, given: &TermSort) -> Result<bool, AllocEr
     }
 }
 
-/// Keeps the least fault of the one so far and that each variable in an initial marking is. SaysMultiset
+/// Keeps the least fault of the one so far and that each variable in an initial marking is. Says
 /// whether there is none. The recursion goes by the height of the term.
 #[cycle(variables)]
 pub(crate) fn keep_variables(

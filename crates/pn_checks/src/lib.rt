@@ -3,13 +3,11 @@
 #![tactic(auto)]
 
 mod checked;
-mod initial;
 mod judging;
 mod labels;
 pub mod laws;
 mod links;
 mod net_sorts;
-mod plain_net;
 mod sorts;
 mod tokens;
 mod told;
@@ -18,4 +16,3 @@ mod typing;
 pub use checked::Checked;
 pub use judging::verdict;
 pub use links::linked;
-pub use plain_net::plain;

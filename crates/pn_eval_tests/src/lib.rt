@@ -9,5 +9,3 @@ mod declared;
 mod rows;
 #[cfg(test)]
 mod values;
-#[cfg(test)]
-mod written;

@@ -8,9 +8,9 @@ ghost use Rattle.pn_eval.specs.Assignments.{IsAssignment};
 ghost use Rattle.pn_sorts.specs.Standing.{IsFaultless};
 
 use crate::assigned::value_of;
-use crate::written::term;
 use pn_bag::Bag;
 use pn_eval::Outcome;
+use pn_samples::term;
 use pn_sorts::{Decls, Value};
 use pn_terms::Term;
 use std::alloc::{AllocError, Global};

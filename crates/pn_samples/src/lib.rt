@@ -1,14 +1,16 @@
-//! Declarations for tests, entered into a list that the caller lends, and sorts. No clause says what
-//! they are: a test looks at what comes of them.
+//! Declarations for tests, entered into a list that the caller lends, sorts, and terms. No clause says
+//! what they are: a test looks at what comes of them.
 #![tactic(auto)]
 
 mod sorts;
+mod terms;
 
 use pn_syntax::{ConstExpr, Constant, Declaration, PartElement, SortBody, SortExpr, SortNode};
 use pn_text::Text;
 pub use sorts::sort_of;
 use sqlite_items::Items;
 use std::alloc::{AllocError, Global};
+pub use terms::term;
 
 /// The sort expression at this offset.
 pub fn sort(at: u64, node: SortNode) -> SortExpr {

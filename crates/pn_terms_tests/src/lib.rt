@@ -11,5 +11,3 @@ mod refused;
 mod rows;
 #[cfg(test)]
 mod sorted;
-#[cfg(test)]
-mod written;

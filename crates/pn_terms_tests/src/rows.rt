@@ -6,7 +6,7 @@
 
 ghost use Rattle.pn_sorts.specs.Standing.{IsFaultless};
 
-use crate::written::{term, term_sort};
+use pn_samples::term;
 use pn_sorts::{Decls, Fault, Refusal};
 use pn_terms::{Term, TermSort, sort_fault, sort_of, variables};
 use std::alloc::{AllocError, Global};
@@ -19,6 +19,14 @@ enum Asked {
     Fault,
     Variables,
     WrongSort,
+}
+
+/// The sort of terms of these words: a sort, or a `Bag` over one.
+fn term_sort(alloc: Global, words: &str) -> Result<TermSort, AllocError> {
+    match words.strip_prefix("Bag ") {
+        Some(of) => Ok(TermSort::Bag(pn_samples::sort_of(alloc, of)?)),
+        None => Ok(TermSort::Basis(pn_samples::sort_of(alloc, words)?)),
+    }
 }
 
 /// The sort of a term, or the least fault of the sorts in it, or its own.

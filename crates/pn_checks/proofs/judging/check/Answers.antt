@@ -1,7 +1,7 @@
 use Rattle.std.proofs.Common.{◌≡◌, Err, ap, refl}
 use Rattle.pn_faults.specs.declared.fault.Refusal.TheVariants as Refusal
 use Rattle.pn_checks.specs.Verdicts.{in_tree}
-use Rattle.pn_checks.proofs.PlainLemmas.{is_typed}
+use Rattle.pn_checks.proofs.LinkLemmas.{is_typed}
 use Rattle.pn_checks.proofs.judging.check.Goals as goal
 
 pub finish-requires-clause-typed : goal.finish-requires-clause-typed

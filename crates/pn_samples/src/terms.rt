@@ -5,8 +5,9 @@
 //! `range:3,1,5`, `text:ab`, `all:c`, `empty:c` and `emptylist:c` are leaves, and `true` is a truth
 //! value. The offset of a node is its place among them.
 
-use pn_samples::{sort_of, user};
-use pn_terms::{Kind, NumberSort, Term, TermNode, TermSort, find_op};
+use crate::user;
+use pn_operators::{Kind, find_op};
+use pn_syntax::{NumberSort, Term, TermNode};
 use pn_text::Text;
 use sqlite_items::{Boxed, Items};
 use std::alloc::{AllocError, Global};
@@ -119,16 +120,8 @@ fn put_all(alloc: Global, words: &str, stack: &mut Vec<Term>) -> Result<(), Allo
 }
 
 /// The term of these words.
-pub(crate) fn term(alloc: Global, words: &str) -> Result<Term, AllocError> {
+pub fn term(alloc: Global, words: &str) -> Result<Term, AllocError> {
     let mut stack = Vec::new(alloc);
     put_all(alloc, words, &mut stack)?;
     Ok(top(&mut stack))
-}
-
-/// The sort of terms of these words: a sort, or a `Bag` over one.
-pub(crate) fn term_sort(alloc: Global, words: &str) -> Result<TermSort, AllocError> {
-    match words.strip_prefix("Bag ") {
-        Some(of) => Ok(TermSort::Bag(sort_of(alloc, of)?)),
-        None => Ok(TermSort::Basis(sort_of(alloc, words)?)),
-    }
 }
