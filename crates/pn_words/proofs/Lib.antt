@@ -1,0 +1,9 @@
+pub mod SameLemmas
+pub mod ThenLemmas
+pub mod WayLemmas
+pub mod PlaceLemmas
+pub mod ClosedLemmas
+pub mod NumberLemmas
+pub mod DigitLemmas
+pub mod LiteralLemmas
+pub mod MarkLemmas
