@@ -31,3 +31,4 @@ pub mod LabelAlikeLemmas
 pub mod ValueAlikeLemmas
 pub mod KeptLemmas
 pub mod DeclarationAlikeLemmas
+pub mod SortedLemmas

@@ -14,7 +14,7 @@ use Rattle.pn_checks.specs.Verdicts.{IsFaultOf, in_tree, no_value}
 use Rattle.pn_net.specs.Documents.{HasNoShapeFault, HasSoundLinks, IsWellTyped, StandsInTree, links, shape, sorts, typing}
 use Rattle.pn_net.specs.Flattening.{IsFlattened, net_of_flat}
 use Rattle.pn_net.specs.Links.{StandsInLinks}
-use Rattle.pn_net.specs.Typed.{HasNumbers, IsTyped, IsWired}
+use Rattle.pn_net.specs.Typed.{HasNumbers, HasTypedLabels, IsTyped, IsWired}
 use Rattle.pn_net.specs.declared.flat.Flat.{Flat}
 use Rattle.pn_net.specs.declared.flat.FlatArc.{FlatArc}
 use Rattle.pn_objects.specs.declared.net.Net.{Net}
@@ -99,8 +99,9 @@ module _ (tree : Element) where
   }
 
 -- a flat net without a fault is that of a document
-pub is_typed : (tree : Element) (f : Flat) → IsLinked tree f → IsWellTyped tree → IsTyped f
-is_typed tree f linked well = record {
+pub is_typed : (tree : Element) (f : Flat) → IsLinked tree f → HasTypedLabels f → IsWellTyped tree → IsTyped f
+is_typed tree f linked labels well = record {
+  labels = labels;
   wired = linked.wired;
   document = record { tree = tree; is_tree = linked.is_tree; well_typed = well; net = net_of_flat f; is_flat = linked.is_flat; same = refl };
 }

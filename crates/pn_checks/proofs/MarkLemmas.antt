@@ -17,6 +17,7 @@ use Rattle.pn_eval.specs.Values.{HasValue}
 use Rattle.pn_operations.specs.declared.outcome.Outcome.{Outcome}
 use Rattle.pn_syntax.specs.declared.declaration.Declaration.{Declaration}
 use Rattle.pn_facts.proofs.Lists.{take_got}
+use Rattle.pn_net.proofs.OrderLemmas.{marking_multiset}
 use Rattle.pn_net.specs.Labels.{said}
 use Rattle.pn_net.specs.Orders.{token_cmp}
 use Rattle.pn_net.specs.declared.flat.Flat.{Flat}
@@ -116,16 +117,9 @@ module _ (SaysMultiset : Term → List (Value × ℕ) → Type 0) (once : SaysOn
   marked_once i (Some p) m k v (b, first, stand) (c, second, others) =
       stand v ∙ ap (λ bag. count_of value_cmp bag v) (first_once (said p.hl_marking) (said p.marking) b c first second) ∙ sym (others v)
 
-counted : (entries : List (Token × ℕ)) → Every (λ e. (0 < e.1) × (e.1 ≤ MAX_COUNT)) entries → Every (λ e. 0 < e.1) entries
-counted [] all = tt
-counted (e ∷ entries) all = (all.0.0, counted entries all.1)
-
-multiset_of : (m : List (Token × ℕ)) → IsBag token_cmp m → IsMultiset token_cmp m
-multiset_of m is = record { rising = is.rising; positive = counted m is.counted }
-
 pub initial_once : ((xs ys : List (Token × ℕ)) → IsMultiset token_cmp xs → IsMultiset token_cmp ys → IsSame token_cmp xs ys → xs ≡ ys) → (f g : Flat) (m k : List (Token × ℕ)) → SaysOnce (SaysMultiset f.declarations)
     → f.places ≡ g.places → f.declarations ≡ g.declarations → IsInitial f m → IsInitial g k → m ≡ k
 initial_once entries f g m k once same declared is also =
     let marked : AreMarked (SaysMultiset f.declarations) g.places k = subst (λ ds. AreMarked (SaysMultiset ds) g.places k) (sym declared) also.marked in
-    entries m k (multiset_of m is.bag) (multiset_of k also.bag)
+    entries m k (marking_multiset m is.bag) (marking_multiset k also.bag)
     (λ t. marked_once (SaysMultiset f.declarations) once t.place (slice_get f.places t.place) m k t.value (is.marked t.place) (subst (λ ps. IsMarked (SaysMultiset f.declarations) k t.place (slice_get ps t.place)) (sym same) (marked t.place)))

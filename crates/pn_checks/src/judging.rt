@@ -9,7 +9,7 @@ ghost use Rattle.pn_faults.specs.declared.fault.Refusal.TheVariants as Refusal;
 ghost use Rattle.pn_ids.specs.Names.{AreDistinct};
 ghost use Rattle.pn_markup.specs.Offsets.{HasRisingOffsets};
 ghost use Rattle.pn_names.specs.Names.{names_of};
-ghost use Rattle.pn_net.specs.Typed.{IsTyped};
+ghost use Rattle.pn_net.specs.Typed.{HasTypedLabels, IsTyped};
 
 use crate::Checked;
 use crate::links::linked;
@@ -69,6 +69,7 @@ fn make_parts(alloc: Global, tree: &Tree, flat: &Flat) -> Result<Parts, Refusal>
     requires linked { IsLinked tree.now flat.now }
     ensures declared { IfOk result (λ parts. parts.decls ≡ flat.now.declarations) }
     ensures initial { IfOk result (λ parts. IsInitial flat.now parts.initial) }
+    ensures typed { IsOk result → HasTypedLabels flat.now }
     ensures accepted { IsOk result → IsAccepted tree.now }
     ensures stands { (f : Fault) → result ≡ Err (Refusal.Fault f) → IsFaultOf tree.now f }
     ensures least { (f : Fault) → result ≡ Err (Refusal.Fault f) → HasRisingOffsets tree.now → IsLeastInTree tree.now f }
@@ -99,6 +100,7 @@ fn mark(alloc: Global, tree: &Tree, flat: &Flat, decls: &Decls) -> Result<Markin
     requires linked { IsLinked tree.now flat.now }
     requires declared { decls.now ≡ flat.now.declarations }
     ensures initial { IfOk result (IsInitial flat.now) }
+    ensures typed { IsOk result → HasTypedLabels flat.now }
     ensures accepted { IsOk result → IsAccepted tree.now }
     ensures stands { (f : Fault) → result ≡ Err (Refusal.Fault f) → IsFaultOf tree.now f }
     ensures least { (f : Fault) → result ≡ Err (Refusal.Fault f) → HasRisingOffsets tree.now → IsLeastInTree tree.now f }

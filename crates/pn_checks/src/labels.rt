@@ -1,6 +1,6 @@
 //! The least fault of typing in the term of a label.
 
-ghost use Rattle.std.specs.Prelude.{◌≡◌, ◌↔◌, List, Some, IfOk, IsTrue, OnOk, codes, true, false};
+ghost use Rattle.std.specs.Prelude.{◌≡◌, ◌↔◌, List, None, Some, IfOk, IsTrue, OnOk, codes, true, false};
 ghost use Rattle.std.specs.List.{Contains};
 ghost use Rattle.pn_checks.specs.LabelFaults.{IsExamined, IsTruth, IsVariableIn, LabelStands};
 ghost use Rattle.pn_checks.specs.NoValue.{HasNoVariable};
@@ -31,7 +31,8 @@ pub(crate) fn keep_condition(
 ) -> Result<(), AllocError>
     requires faultless { IsFaultless decls.now }
     requires sound { HasSoundSorts decls.now term.now }
-    ensures { OnOk result (KeepsLeast (LabelStands decls.now IsTruth (codes "condition") term.now) least.old least.new) }
+    ensures least { OnOk result (KeepsLeast (LabelStands decls.now IsTruth (codes "condition") term.now) least.old least.new) }
+    ensures sorted { OnOk result (least.new ≡ None → (s : TermSort) × HasSort decls.now term.now s) }
 {
     match keep_term(alloc, decls, term, least)? {
         Some(sort) => keep_unless(alloc, is_truth(&sort), term.at, "condition", least),

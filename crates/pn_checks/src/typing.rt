@@ -9,7 +9,7 @@ ghost use Rattle.pn_checks.specs.LabelFaults.{ArcLabels, LabelStands, MarkingSta
 ghost use Rattle.pn_checks.specs.Linked.{IsLinked};
 ghost use Rattle.pn_checks.specs.NoValue.{HasNoVariable, IsNoValue, IsNoValueOf, SaysMultiset};
 ghost use Rattle.pn_checks.specs.Tokens.{Gets, IsEmptyAt, KeepsOthers};
-ghost use Rattle.pn_checks.specs.SoundLabels.{AreCounted, HasSoundLabels, HasSoundTerm, HaveSoundTerms};
+ghost use Rattle.pn_checks.specs.SoundLabels.{AreCounted, HasSaidSort, HasSoundLabels, HasSoundTerm, HaveSaidSorts, HaveSortedLabels, HaveSoundTerms};
 ghost use Rattle.pn_faults.specs.declared.fault.Fault.{Fault};
 ghost use Rattle.pn_faults.specs.declared.fault.Refusal.TheVariants as Refusal;
 ghost use Rattle.pn_faults.specs.Standing.{IsLeastOf};
@@ -19,6 +19,7 @@ ghost use Rattle.pn_net.specs.Labels.{IsPlaceSort, said};
 ghost use Rattle.pn_net.specs.Links.{StandsInLinks};
 ghost use Rattle.pn_net.specs.Orders.{token_cmp};
 ghost use Rattle.pn_net.specs.Sound.{HasSoundSort, HaveSoundSorts};
+ghost use Rattle.pn_net.specs.Typed.{HasTypedLabels};
 ghost use Rattle.pn_net.specs.Typing.{IsTermOver, StandsInSorts, StandsInTyping};
 ghost use Rattle.pn_net.specs.declared.flat.FlatArc.{FlatArc};
 ghost use Rattle.pn_objects.specs.declared.net.Net.{Net};
@@ -62,6 +63,7 @@ pub(crate) fn typing(alloc: Global, flat: &Flat, decls: &Decls) -> Result<Markin
     ensures clean { IsOk result → (net : Net) → IsFlattened net (net_of_flat flat.now)
         → ((g : Fault) → StandsInLinks net g → ⊥) → (f : Fault) → StandsInTyping net f ⊎ IsNoValue net f → ⊥ }
     ensures initial { IfOk result (IsInitial flat.now) }
+    ensures typed { IsOk result → HasTypedLabels flat.now }
 {
     let mut marking = Bag::new(alloc);
     let mut least = None;
@@ -102,6 +104,7 @@ fn keep_labels(
     ensures least { OnOk result (KeepsLeast (λ f. (StandsInSome (PlaceLabels decls.now) flat.now.places f ⊎ StandsInSome (TransitionLabels decls.now) flat.now.transitions f)
         ⊎ StandsInSome (ArcLabels decls.now flat.now.places) flat.now.arcs f) least.old least.new) }
     ensures marked { OnOk result (least.new ≡ None → AreMarked (SaysMultiset decls.now) flat.now.places marking.new) }
+    ensures sorted { OnOk result (least.new ≡ None → HaveSortedLabels decls.now flat.now) }
 {
     let sorts = place_sorts(alloc, decls, flat.places.as_slice())?;
     keep_places(
@@ -240,7 +243,8 @@ fn keep_transitions(
 ) -> Result<(), AllocError>
     requires faultless { IsFaultless decls.now }
     requires sound { HaveSoundTerms decls.now (λ t. said t.condition) transitions.now }
-    ensures { OnOk result (KeepsLeast (StandsInSome (TransitionLabels decls.now) transitions.now) least.old least.new) }
+    ensures least { OnOk result (KeepsLeast (StandsInSome (TransitionLabels decls.now) transitions.now) least.old least.new) }
+    ensures sorted { OnOk result (least.new ≡ None → HaveSaidSorts decls.now (λ t. said t.condition) transitions.now) }
 {
     for transition in transitions {
         keep_transition(alloc, decls, transition, least)?;
@@ -257,7 +261,8 @@ fn keep_transition(
 ) -> Result<(), AllocError>
     requires faultless { IsFaultless decls.now }
     requires sound { HasSoundTerm decls.now (said transition.now.condition) }
-    ensures { OnOk result (KeepsLeast (TransitionLabels decls.now transition.now) least.old least.new) }
+    ensures least { OnOk result (KeepsLeast (TransitionLabels decls.now transition.now) least.old least.new) }
+    ensures sorted { OnOk result (least.new ≡ None → HasSaidSort decls.now (said transition.now.condition)) }
 {
     match &transition.condition {
         Some(label) => keep_condition(alloc, decls, &label.get().value, least),
@@ -276,8 +281,10 @@ fn keep_arcs(
     requires faultless { IsFaultless decls.now }
     requires sound { HaveSoundTerms decls.now (λ a. said a.arc.inscription) arcs.now }
     requires wired { (a : FlatArc) → Contains arcs.now a → a.place < length sorts.now }
-    ensures { OnOk result ((places : List Place) → AllZip (IsPlaceSort decls.now) places sorts.now
+    ensures least { OnOk result ((places : List Place) → AllZip (IsPlaceSort decls.now) places sorts.now
         → KeepsLeast (StandsInSome (ArcLabels decls.now places) arcs.now) least.old least.new) }
+    ensures sorted { OnOk result ((places : List Place) → AllZip (IsPlaceSort decls.now) places sorts.now
+        → least.new ≡ None → HaveSaidSorts decls.now (λ a. said a.arc.inscription) arcs.now) }
 {
     for arc in arcs {
         keep_arc(alloc, decls, arc, &sorts[arc.place as usize], least)?;
@@ -295,8 +302,9 @@ fn keep_arc(
 ) -> Result<(), AllocError>
     requires faultless { IsFaultless decls.now }
     requires sound { HasSoundTerm decls.now (said arc.now.arc.inscription) }
-    ensures { OnOk result ((places : List Place) (p : Place) → slice_get places arc.now.place ≡ Some p → IsPlaceSort decls.now p sort.now
+    ensures least { OnOk result ((places : List Place) (p : Place) → slice_get places arc.now.place ≡ Some p → IsPlaceSort decls.now p sort.now
         → KeepsLeast (ArcLabels decls.now places arc.now) least.old least.new) }
+    ensures sorted { OnOk result (least.new ≡ None → HasSaidSort decls.now (said arc.now.arc.inscription)) }
 {
     match &arc.arc.inscription {
         Some(label) => keep_inscription(alloc, decls, sort, &label.get().value, least),
@@ -314,7 +322,8 @@ fn keep_inscription(
 ) -> Result<(), AllocError>
     requires faultless { IsFaultless decls.now }
     requires sound { HasSoundSorts decls.now term.now }
-    ensures { OnOk result (KeepsLeast (LabelStands decls.now (IsTermOver sort.now) (codes "hlinscription") term.now) least.old least.new) }
+    ensures least { OnOk result (KeepsLeast (LabelStands decls.now (IsTermOver sort.now) (codes "hlinscription") term.now) least.old least.new) }
+    ensures sorted { OnOk result (least.new ≡ None → (s : TermSort) × HasSort decls.now term.now s) }
 {
     keep_at_place(alloc, decls, sort, "hlinscription", term, least)?;
     Ok(())

@@ -10,9 +10,10 @@ ghost use Rattle.pn_command.specs.Lines.{IsLine, limit_line, line_text, refusal_
 
 use crate::Status;
 use pn_faults::Fault;
+use pn_lines::put_count;
 use pn_outside::limits::BYTES;
 use pn_outside::{Failed, Sink, put_text};
-use pn_report::{put_count, put_fault};
+use pn_report::put_fault;
 
 const USAGE: &str =
     "pnml: usage: check, flatten, step MODE (one or more), modes T, unfold, trial N\n";

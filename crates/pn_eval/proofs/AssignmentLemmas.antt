@@ -10,7 +10,7 @@ use Rattle.pn_carriers.proofs.NumberLemmas.{by_le}
 use Rattle.pn_values.specs.declared.value.Value.{Value}
 use Rattle.pn_eval.specs.Assignments.{value_of_variable}
 
-far : (xs : List ℕ) → IsStrictlyIncreasing xs → (i n j : ℕ) → j ≡ i + suc n → j < length xs → get_or xs i 0 < get_or xs j 0
+pub far : (xs : List ℕ) → IsStrictlyIncreasing xs → (i n j : ℕ) → j ≡ i + suc n → j < length xs → get_or xs i 0 < get_or xs j 0
 far xs up i zero j is l =
     let next : i + 1 ≡ j = omega (arith, is) in
     subst (λ k. get_or xs i 0 < get_or xs k 0) next (up i (omega (arith, l, next)))
@@ -26,7 +26,7 @@ rising xs up i j le l =
     (λ (back : j ≤ i). let same : i ≡ j = omega (arith, le, back) in subst (λ k. get_or xs i 0 ≤ get_or xs k 0) same (omega arith))
     (λ (on : i < j). let less = far xs up i (j - (i + 1)) j (omega (arith, on)) l in omega (arith, less))
 
-behind : (x : ℕ) (xs : List ℕ) → IsStrictlyIncreasing (x ∷ xs) → IsStrictlyIncreasing xs
+pub behind : (x : ℕ) (xs : List ℕ) → IsStrictlyIncreasing (x ∷ xs) → IsStrictlyIncreasing xs
 behind x xs up k l =
     let next : suc k + 1 ≡ suc (k + 1) = omega arith in
     subst (λ m. get_or xs k 0 < get_or (x ∷ xs) m 0) next (up (suc k) (omega (arith, l)))

@@ -1,5 +1,5 @@
 -- Members of single sorts, and what is read from them.
-use Rattle.std.proofs.Common.{◌≡◌, ℕ, ◌<◌, ℤ, int_le, Bool, true, ◌&&◌, List, sym, ap, ◌∙◌, arith}
+use Rattle.std.proofs.Common.{◌≡◌, ℕ, suc, ◌<◌, ℤ, int_le, Bool, true, ◌&&◌, List, [], ◌∷◌, length, map, refl, sym, ap, ◌∙◌, arith}
 use Rattle.std.proofs.lemmas.Bool.{false≢true}
 use Rattle.std.proofs.lemmas.Bool.Decides.{nat_tests}
 use Rattle.std.specs.List.{list_all}
@@ -13,10 +13,11 @@ use Rattle.pn_values.specs.declared.sort.Sort.TheFolds.{fold-roll-Sort, map-Sort
 use Rattle.pn_values.specs.declared.value.Value.{Value}
 use Rattle.pn_values.specs.declared.value.Value.TheOpen as layer
 use Rattle.pn_values.specs.declared.value.Value.TheVariants as values
-use Rattle.pn_values.specs.declared.value.Value.TheVariants.{rolls-List as rolls-list-value}
+use Rattle.pn_values.specs.declared.value.Value.TheVariants.{rolls-List as rolls-list-value, rolls-Text as rolls-text-value}
 use Rattle.pn_values.specs.declared.value.Value.TheViews.{out-Value, out-roll-Value}
-use Rattle.pn_carriers.specs.Members.{IsMember, is_dot, is_truth, is_constant, is_between, is_document_text, is_list_of, least_number, greatest_number, is_member_layer, is_member}
+use Rattle.pn_carriers.specs.Members.{IsMember, is_dot, is_truth, is_constant, is_between, is_document_text, is_list_of, least_number, greatest_number, is_member_layer, is_member, pass_each}
 use Rattle.pn_carriers.proofs.ValueLemmas.{out-dot, out-bool, out-int}
+use Rattle.pn_facts.proofs.Truths.{and_right}
 use Rattle.pn_operations.specs.Outcomes.{place_of, text_of, items_of}
 
 of_layer : (widths : List ℕ) (s : Sort) (x : sort_layer.Sort-F Sort) (v : Value) → roll-Sort x ≡ s
@@ -71,3 +72,16 @@ items_pass test (layer.Int z) h = absurd (false≢true h)
 items_pass test (layer.Text t) h = absurd (false≢true h)
 items_pass test (layer.Tuple vs) h = absurd (false≢true h)
 items_pass test (layer.List vs) h = h
+
+pub out_text_value : (t : List ℕ) → out-Value (values.Text t) ≡ layer.Text t
+out_text_value t = ap out-Value (sym (rolls-text-value t)) ∙ out-roll-Value (layer.Text t)
+
+pub out_list_value : (vs : List Value) → out-Value (values.List vs) ≡ layer.List vs
+out_list_value vs = ap out-Value (sym (rolls-list-value vs)) ∙ out-roll-Value (layer.List vs)
+
+-- a tuple has as many parts as its sort
+pub as_many : (test : Sort → Value → Bool) (parts : List Sort) (vs : List Value) → pass_each (map test parts) vs ≡ true → length parts ≡ length vs
+as_many test [] [] is = refl
+as_many test [] (v ∷ vs) is = absurd (false≢true is)
+as_many test (part ∷ parts) [] is = absurd (false≢true is)
+as_many test (part ∷ parts) (v ∷ vs) is = ap suc (as_many test parts vs (and_right (test part v) (pass_each (map test parts) vs) is))

@@ -65,7 +65,7 @@ said_bare : (l : Option (Label SortExpr)) → said (option_map (label_with sort_
 said_bare None = refl
 said_bare (Some l) = refl
 
-contains_kept : {X Y : Type 0} (h : X → Option Y) (xs : List X) (x : X) (y : Y) → Contains xs x → h x ≡ Some y → Contains (filter_map h xs) y
+pub contains_kept : {X Y : Type 0} (h : X → Option Y) (xs : List X) (x : X) (y : Y) → Contains xs x → h x ≡ Some y → Contains (filter_map h xs) y
 contains_kept h [] x y has is = absurd (contains_nil x has)
 contains_kept {X} {Y} h (z ∷ xs) x y has is = subst (λ ys. Contains ys y) (sym (filter_map-append h (z ∷ []) xs ∙ ap (λ ys. ys ++ filter_map h xs) (one_kept h z))) (side (λ later. contains_kept h xs x y later is) (contains_cases z xs x has))
   where

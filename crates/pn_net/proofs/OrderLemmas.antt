@@ -1,5 +1,5 @@
 -- The orders of tokens and of modes tell all apart.
-use Rattle.std.proofs.Common.{◌≡◌, ◌↔◌, List, [], ◌∷◌, refl, sym, ap, ◌∙◌}
+use Rattle.std.proofs.Common.{◌≡◌, ◌↔◌, ◌<◌, ◌≤◌, ℕ, List, [], ◌∷◌, refl, sym, ap, ◌∙◌}
 use Rattle.std.specs.Cmp.Lexicographic.{slice_cmp}
 use Rattle.std.specs.Ordering.{is_eq, nat_cmp, ordering_then}
 use Rattle.std.specs.declared.cmp.Ordering.{Ordering}
@@ -7,6 +7,9 @@ use Rattle.std.specs.declared.cmp.Ordering.TheVariants.{Less, Equal, Greater}
 use Rattle.std.proofs.lemmas.Bool.{false≢true}
 use Rattle.std.proofs.lemmas.Cmp.{tied_itself}
 use Rattle.std.proofs.lemmas.Map.Lookups.{exact_unsigned}
+use Rattle.pn_bag.specs.Bag.{IsBag}
+use Rattle.pn_bag.specs.Counts.{Every, IsMultiset}
+use Rattle.pn_bag.specs.declared.TheConstants.{MAX_COUNT}
 use Rattle.pn_values.specs.Order.{value_cmp}
 use Rattle.pn_values.specs.OrderLaws.{values_apart}
 use Rattle.pn_values.specs.declared.value.Value.{Value}
@@ -36,3 +39,11 @@ same_modes a b = (
   λ e. let both = then_both (nat_cmp a.transition b.transition) (slice_cmp value_cmp a.values b.values) e in λ i. record { transition = exact_unsigned a.transition b.transition both.0 i; values = lists_same a.values b.values both.1 i },
   λ e. ap (mode_cmp a) (sym e) ∙ tied_itself modes_total a,
 )
+
+counted : (entries : List (Token × ℕ)) → Every (λ e. (0 < e.1) × (e.1 ≤ MAX_COUNT)) entries → Every (λ e. 0 < e.1) entries
+counted [] all = tt
+counted (e ∷ entries) all = (all.0.0, counted entries all.1)
+
+-- a marking is a multiset
+pub marking_multiset : (m : List (Token × ℕ)) → IsBag token_cmp m → IsMultiset token_cmp m
+marking_multiset m is = record { rising = is.rising; positive = counted m is.counted }

@@ -1,5 +1,5 @@
 -- What a typed net keeps, and what it tells of its flat net (ISO/IEC 15909-1, high-level nets).
-use Rattle.std.specs.Prelude.{◌≡◌, ◌==◌, ◌^◌, ◌<◌, ◌↔◌, ℕ, suc, Bool, List, [], ◌∷◌, ◌++◌, length, Option, Some, if◌then◌else◌}
+use Rattle.std.specs.Prelude.{◌≡◌, ◌==◌, ◌^◌, ◌<◌, ◌↔◌, ℕ, suc, Bool, List, [], ◌∷◌, ◌++◌, length, Option, Some, IfSome, if◌then◌else◌}
 use Rattle.std.specs.List.{AllByRecursion, AllZip, Contains, filter, filter_map, flat_map, slice_get}
 use Rattle.std.specs.List.Sorted.{IsStrictlyIncreasing}
 use Rattle.std.specs.Option.{option_and_then, option_to_list}
@@ -12,7 +12,10 @@ use Rattle.pn_sorts.specs.Standing.{IsFaultless}
 use Rattle.pn_spelling.specs.ReadNets.{net_of}
 use Rattle.pn_syntax.specs.declared.declaration.Declaration.{Declaration}
 use Rattle.pn_syntax.specs.declared.term.Term.{Term}
+use Rattle.pn_terms.specs.Sorts.{HasSort}
+use Rattle.pn_terms.specs.Standing.{HasSoundSorts}
 use Rattle.pn_terms.specs.Variables.{variables_in_term}
+use Rattle.pn_terms.specs.declared.term_sort.TermSort.{TermSort}
 use Rattle.pn_tree.specs.Elements.{IsTree}
 use Rattle.pn_tree.specs.declared.element.Element.{Element}
 use Rattle.pn_values.specs.declared.sort.Sort.{Sort}
@@ -39,8 +42,18 @@ pub record IsOfDocument (f : Flat) : Type 0 where
   pub is_flat : IsFlattened (net_of tree) net
   pub same : IsSameNet (net_of_flat f) net
 
+-- no fault stands in the sorts that a term writes, and it has a sort
+abbrev pub IsTypedTerm : List Declaration → Term → Type 0
+IsTypedTerm items e = HasSoundSorts items e × ((s : TermSort) × HasSort items e s)
+
+-- so it is with each condition and each inscription
+pub record HasTypedLabels (f : Flat) : Type 0 where
+  pub conditions : (t : Transition) → Contains f.transitions t → IfSome (said t.condition) (IsTypedTerm f.declarations)
+  pub inscriptions : (a : FlatArc) → Contains f.arcs a → IfSome (said a.arc.inscription) (IsTypedTerm f.declarations)
+
 -- what holds of the flat net of each typed net
 pub record IsTyped (f : Flat) : Type 0 where
+  pub labels : HasTypedLabels f
   pub wired : (a : FlatArc) → Contains f.arcs a → IsWired f a
   pub document : IsOfDocument f
 

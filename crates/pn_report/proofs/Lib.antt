@@ -1,4 +1,2 @@
-pub mod ByteLemmas
 pub mod LineLemmas
 pub mod SummaryLemmas
-pub mod TextLemmas

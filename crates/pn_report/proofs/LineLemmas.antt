@@ -2,7 +2,7 @@
 use Rattle.std.proofs.Common.{◌≡◌, ℕ, List, ◌++◌, codes, ap, ◌∙◌}
 use Rattle.pn_faults.specs.declared.fault.Fault.{Fault}
 use Rattle.pn_faults.specs.Reasons.{words_of}
-use Rattle.pn_report.specs.Escapes.{escaped}
+use Rattle.pn_lines.specs.Escapes.{escaped}
 use Rattle.pn_report.specs.Lines.{count_text, fault_line}
 
 pub fault_pieces : (f : Fault) (words detail : List ℕ) → words ≡ words_of f.reason → detail ≡ f.detail

@@ -1,3 +1,2 @@
-pub mod Escapes
 pub mod Lines
 pub mod Summaries

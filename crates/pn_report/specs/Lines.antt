@@ -2,7 +2,7 @@
 use Rattle.std.specs.Prelude.{ℕ, List, ◌++◌, codes, decimal}
 use Rattle.pn_faults.specs.declared.fault.Fault.{Fault}
 use Rattle.pn_faults.specs.Reasons.{words_of}
-use Rattle.pn_report.specs.Escapes.{escaped}
+use Rattle.pn_lines.specs.Escapes.{escaped}
 
 -- a label and the number behind it
 abbrev pub count_text : List ℕ → ℕ → List ℕ

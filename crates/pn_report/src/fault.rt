@@ -3,12 +3,11 @@
 ghost use Rattle.std.specs.Prelude.{◌++◌, codes};
 ghost use Rattle.pn_outside.specs.Cause.{CountsFault, HasCause};
 ghost use Rattle.pn_outside.specs.Taking.{Puts};
-ghost use Rattle.pn_report.specs.Escapes.{escaped};
+ghost use Rattle.pn_lines.specs.Escapes.{escaped};
 ghost use Rattle.pn_report.specs.Lines.{fault_line};
 
-use crate::escape::put_escaped;
-use crate::number::put_count;
 use pn_faults::Fault;
+use pn_lines::{put_count, put_escaped};
 use pn_outside::{Failed, Sink, put_text};
 
 /// Puts what a fault is about, at the end of its line.

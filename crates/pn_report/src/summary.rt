@@ -5,7 +5,7 @@ ghost use Rattle.pn_outside.specs.Cause.{CountsFault, HasCause};
 ghost use Rattle.pn_outside.specs.Taking.{Puts};
 ghost use Rattle.pn_report.specs.Summaries.{kind_word, sizes_text, summary_line};
 
-use crate::number::put_count;
+use pn_lines::put_count;
 use pn_net::{Marking, Typed};
 use pn_operators::Kind;
 use pn_outside::{Failed, Sink, put_text};

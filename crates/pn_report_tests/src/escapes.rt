@@ -1,7 +1,7 @@
 //! How ids and details stand in a line: each character of ASCII, and some past it.
 
+use pn_lines::{laws, put_count, put_escaped};
 use pn_outside::{CountSink, Failed, MemorySink};
-use pn_report::{laws, put_count, put_escaped};
 use std::alloc::{AllocError, Global};
 use std::process::Abort;
 use std::test::Fail;

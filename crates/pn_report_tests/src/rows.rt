@@ -8,7 +8,7 @@ ghost use Rattle.pn_faults.specs.declared.reason.Reason.TheVariants as reasons;
 ghost use Rattle.pn_net.specs.declared.flat.Flat.{Flat};
 ghost use Rattle.pn_net.specs.declared.token.Token.{Token};
 ghost use Rattle.pn_operators.specs.declared.kind.Kind.TheVariants as kinds;
-ghost use Rattle.pn_report.specs.Escapes.{escaped};
+ghost use Rattle.pn_lines.specs.Escapes.{escaped};
 ghost use Rattle.pn_report.specs.Lines.{fault_line};
 ghost use Rattle.pn_report.specs.Summaries.{summary_line};
 

@@ -1,6 +1,6 @@
 use Rattle.std.proofs.Common.{◌++◌, codes}
 use Rattle.pn_outside.proofs.TakingLemmas.{puts_then, puts_stop}
-use Rattle.pn_report.specs.Escapes.{escaped}
+use Rattle.pn_lines.specs.Escapes.{escaped}
 use Rattle.pn_report.proofs.fault.put_detail.Goals as goal
 
 pub returns-in_err-put_text-clause-puts : goal.returns-in_err-put_text-clause-puts

@@ -2,7 +2,7 @@ use Rattle.std.proofs.Common.{◌++◌, codes, refl}
 use Rattle.pn_faults.specs.Reasons.{words_of}
 use Rattle.pn_outside.proofs.TakingLemmas.{puts_then, puts_stop}
 use Rattle.pn_tree.proofs.PutLemmas.{puts_as}
-use Rattle.pn_report.specs.Escapes.{escaped}
+use Rattle.pn_lines.specs.Escapes.{escaped}
 use Rattle.pn_report.proofs.LineLemmas.{fault_pieces}
 use Rattle.pn_report.proofs.fault.put_fault.Goals as goal
 

@@ -4,7 +4,7 @@ ghost use Rattle.std.specs.Prelude.{◌≡◌, ◌<◌, ◌++◌, true};
 ghost use Rattle.std.specs.Fmt.{digit_glyph};
 ghost use Rattle.pn_outside.specs.Cause.{CountsFault, HasCause};
 ghost use Rattle.pn_outside.specs.Taking.{Puts};
-ghost use Rattle.pn_report.specs.Escapes.{escaped, is_plain, percent_escape};
+ghost use Rattle.pn_lines.specs.Escapes.{escaped, is_plain, percent_escape};
 
 use pn_outside::{Failed, Sink, put_all};
 

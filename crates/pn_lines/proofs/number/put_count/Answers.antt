@@ -1,7 +1,7 @@
 use Rattle.std.proofs.Common.{ℕ, List, subst}
 use Rattle.pn_outside.specs.Taking.{Puts}
 use Rattle.pn_outside.proofs.TakingLemmas.{puts_then}
-use Rattle.pn_report.proofs.number.put_count.Goals as goal
+use Rattle.pn_lines.proofs.number.put_count.Goals as goal
 
 pub returns-clause-puts : goal.returns-clause-puts
 returns-clause-puts g c =

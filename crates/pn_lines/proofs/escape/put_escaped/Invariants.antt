@@ -1,8 +1,8 @@
 use Rattle.std.proofs.Common.{◌≡◌, ◌≤◌, take}
 use Rattle.pn_outside.specs.Taking.{Takes}
-use Rattle.pn_report.specs.Escapes.{escape, escaped}
+use Rattle.pn_lines.specs.Escapes.{escape, escaped}
 use Rattle.pn_tree.proofs.EscapeLemmas.{IsRun}
-use Rattle.pn_report.proofs.escape.put_escaped.Given as goal
+use Rattle.pn_lines.proofs.escape.put_escaped.Given as goal
 
 abbrev pub invariant-loop-at : goal.invariant-loop-at
 invariant-loop-at g l = record {

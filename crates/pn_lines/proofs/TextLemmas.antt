@@ -5,8 +5,8 @@ use Rattle.std.proofs.lemmas.Bool.Decides.{nat_tests}
 use Rattle.std.specs.Fmt.{digit_glyph}
 use Rattle.std.specs.List.{list_all, AllByRecursion}
 use Rattle.pn_facts.proofs.Lists.{all_append, flat_map_same}
-use Rattle.pn_report.specs.Escapes.{escape, escaped, is_line_byte, is_plain, percent_escape}
-use Rattle.pn_report.proofs.ByteLemmas.{plain_stays}
+use Rattle.pn_lines.specs.Escapes.{escape, escaped, is_line_byte, is_plain, percent_escape}
+use Rattle.pn_lines.proofs.ByteLemmas.{plain_stays}
 
 digit_stays : (d : ℕ) → d < 16 → is_line_byte (digit_glyph true d) ≡ true
 digit_stays d lt = step (nat_lt d 10) refl

@@ -2,7 +2,7 @@
 
 ghost use Rattle.std.specs.Prelude.{◌≡◌, ◌<◌, true, ℕ, List};
 ghost use Rattle.std.specs.List.{list_all, AllByRecursion};
-ghost use Rattle.pn_report.specs.Escapes.{escaped, is_plain, is_line_byte};
+ghost use Rattle.pn_lines.specs.Escapes.{escaped, is_plain, is_line_byte};
 
 /// An escaped text has no bytes but those that stand as they are and `%`: no white space, no control
 /// character and none of the marks between which it stands. So a line is one line.

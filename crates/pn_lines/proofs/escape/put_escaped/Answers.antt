@@ -1,10 +1,10 @@
 use Rattle.std.proofs.Common.{◌+◌, sym, ◌∙◌, arith}
 use Rattle.pn_outside.proofs.TakingLemmas.{puts_failed}
 use Rattle.pn_tree.proofs.EscapeLemmas.{run_none, run_more, took_run, run_failed, took_rest}
-use Rattle.pn_report.specs.Escapes.{escape}
-use Rattle.pn_report.proofs.ByteLemmas.{other_escapes, plain_stays}
-use Rattle.pn_report.proofs.escape.put_escaped.Goals.{then-not-is_plain+in_ok-put_run, else-not-is_plain}
-use Rattle.pn_report.proofs.escape.put_escaped.Goals as goal
+use Rattle.pn_lines.specs.Escapes.{escape}
+use Rattle.pn_lines.proofs.ByteLemmas.{other_escapes, plain_stays}
+use Rattle.pn_lines.proofs.escape.put_escaped.Goals.{then-not-is_plain+in_ok-put_run, else-not-is_plain}
+use Rattle.pn_lines.proofs.escape.put_escaped.Goals as goal
 
 pub returns-in_err-put_run-clause-puts : goal.returns-in_err-put_run-clause-puts
 returns-in_err-put_run-clause-puts g c =

@@ -1,0 +1,5 @@
+use Rattle.pn_lines.proofs.TextLemmas.{escaped_is_clean}
+use Rattle.pn_lines.proofs.laws.escaped_texts_are_clean.Goals as goal
+
+pub returns : goal.returns
+returns c = escaped_is_clean

@@ -1,5 +1,0 @@
-use Rattle.pn_report.proofs.TextLemmas.{escaped_is_clean}
-use Rattle.pn_report.proofs.laws.escaped_texts_are_clean.Goals as goal
-
-pub returns : goal.returns
-returns c = escaped_is_clean

@@ -1,5 +1,0 @@
-use Rattle.pn_report.proofs.TextLemmas.{plain_text_stays}
-use Rattle.pn_report.proofs.laws.plain_texts_stay.Goals as goal
-
-pub returns : goal.returns
-returns c = plain_text_stays
