@@ -1,0 +1,11 @@
+pub mod TotalLemmas
+pub mod PutLemmas
+pub mod ArcLemmas
+pub mod KnownLemmas
+pub mod OnceLemmas
+pub mod TermLemmas
+pub mod ModeLemmas
+pub mod FlowLemmas
+pub mod MoveLemmas
+pub mod FireLemmas
+pub mod StepLemmas

@@ -1,0 +1,7 @@
+use Rattle.std.proofs.Common.{take}
+use Rattle.pn_bag.specs.Counts.{Every}
+use Rattle.pn_marking.specs.Flows.{IsEnough}
+use Rattle.pn_marking.proofs.firing.first_short.Given as goal
+
+abbrev pub invariant-loop-flow : goal.invariant-loop-flow
+invariant-loop-flow l = Every IsEnough (take l.flow-index l.flows)
