@@ -1,0 +1,10 @@
+pub mod AroundLemmas
+pub mod ChoiceLemmas
+pub mod ConjunctLemmas
+pub mod CutLemmas
+pub mod FrontLemmas
+pub mod KnownLemmas
+pub mod PlanLemmas
+pub mod SiftLemmas
+pub mod StepLemmas
+pub mod VariableLemmas
