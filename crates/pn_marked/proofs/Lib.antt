@@ -1,0 +1,4 @@
+pub mod WritingLemmas
+pub mod GroundLemmas
+pub mod BagTermLemmas
+pub mod MarkedLemmas
