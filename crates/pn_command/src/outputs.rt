@@ -13,10 +13,10 @@ ghost use Rattle.pn_command.specs.Outputs.{GivesOutput, HasText, IsLong, IsSumme
 
 use crate::words::Asked;
 use pn_checks::Checked;
-use pn_net::Flat;
+use pn_net::Typed;
 use pn_outside::limits::BYTES;
 use pn_outside::{Failed, Sink};
-use pn_pages::flat_net;
+use pn_pages::typed_net;
 use pn_report::put_summary;
 use pn_tree::{Tree, put_tree, text_length};
 use pn_writer::tree_of;
@@ -32,11 +32,11 @@ pub(crate) enum Output {
 }
 
 /// The element tree of a flat net.
-fn flat_tree(alloc: Global, flat: &Flat) -> Result<Tree, AllocError>
-    requires { (tree : Element) × IsLinked tree flat.now }
-    ensures { IfOk result (λ t. t ≡ tree_of_net (net_of_flat flat.now)) }
+fn flat_tree(alloc: Global, typed: &Typed) -> Result<Tree, AllocError>
+    requires { (tree : Element) × IsLinked tree typed.now }
+    ensures { IfOk result (λ t. t ≡ tree_of_net (net_of_flat typed.now)) }
 {
-    let net = flat_net(alloc, flat)?;
+    let net = typed_net(alloc, typed)?;
     tree_of(alloc, &net)
 }
 
@@ -51,7 +51,7 @@ pub(crate) fn make_output(
 {
     match asked {
         Asked::Check => Ok(summary(checked)),
-        Asked::Flatten => Ok(Output::Net(flat_tree(alloc, checked.typed().flat())?)),
+        Asked::Flatten => Ok(Output::Net(flat_tree(alloc, checked.typed())?)),
     }
 }
 

@@ -29,6 +29,19 @@ use Rattle.pn_pages.specs.Naming.{AreNamed, IsFirstEntry, FindsNode, KeepsFirst,
 no_later : (a b : ℕ) (id : List ℕ) → b ≤ a → comes_before (fault_at reasons.DuplicateId a id) (fault_at reasons.DuplicateId b id) ≡ false
 no_later a b id below = grind (arith, nat_tests)
 
+-- what an id names that was just noted
+pub put_alone : (id : List ℕ) (one : First) (old next : Option First) → next ≡ cond (bytes_eq id id) (Some one) old → next ≡ Some one
+put_alone id one old next is = is ∙ ap (λ b. cond b (Some one) old) ((bytes_eq-Decides id id).1 refl)
+
+-- of two things noted for one id, one after the other, the second stands
+pub put_twice : (id q : List ℕ) (one two old between next : Option First) → between ≡ cond (bytes_eq id q) one old → next ≡ cond (bytes_eq id q) two between
+    → next ≡ cond (bytes_eq id q) two old
+put_twice id q one two old between next first second = second ∙ ap (cond (bytes_eq id q) two) first ∙ step (bytes_eq id q)
+  where
+    step : (b : Bool) → cond b two (cond b one old) ≡ cond b two old
+    step true = refl
+    step false = refl
+
 -- one of these has the id of one more, and the fault is told at the later of both
 abbrev IsClash : List IdHolder → IdHolder → Fault → Type 0
 IsClash hs h f = (x : IdHolder) × Contains hs x × (x.id ≡ h.id) × (f ≡ fault_at reasons.DuplicateId (max x.at h.at) h.id)

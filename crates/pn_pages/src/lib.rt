@@ -14,4 +14,4 @@ mod single_page;
 mod wiring;
 
 pub use flattening::flatten;
-pub use single_page::flat_net;
+pub use single_page::{flat_net, typed_net};

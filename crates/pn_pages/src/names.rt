@@ -1,6 +1,6 @@
 //! The ids of a document, and what each of them names.
 
-ghost use Rattle.std.specs.Prelude.{◌≡◌, ℕ, ◌++◌, ◌∷◌, [], List, OnOk, Some, Option, if◌then◌else◌};
+ghost use Rattle.std.specs.Prelude.{◌≡◌, ℕ, ◌++◌, ◌∷◌, [], List, OnOk, Some, Option, IfOk, if◌then◌else◌};
 ghost use Rattle.std.specs.Str.{bytes_eq};
 ghost use Rattle.pn_faults.specs.declared.fault.Fault.{Fault};
 ghost use Rattle.pn_net.specs.Ids.{IdHolder};
@@ -57,22 +57,22 @@ impl<'a> Names<'a> {
         ensures { OnOk result ((o : Objects) (hs : List IdHolder) (h : IdHolder) → h.id ≡ id.now → h.at ≡ at → Shows o node h
             → AreNamed o hs (told_by self.old) least.old → AreNamed o (hs ++ h ∷ []) (told_by self.new) least.new) }
     {
-        match self.first(id) {
+        match self.put(id, First { at, node })? {
             Some(kept) => {
-                self.note_again(id, First { at, node }, kept)?;
+                self.keep_earlier(id, First { at, node }, kept)?;
                 keep_least_at(least, alloc, Reason::DuplicateId, at.max(kept.at), id)
             }
-            None => self.put(id, First { at, node }),
+            None => Ok(()),
         }
     }
 
-    /// Keeps the earlier of the first that has an id and of one more.
-    fn note_again(&mut self, id: &'a str, one: First, kept: First) -> Result<(), AllocError>
-        requires { told_by self.old id.now ≡ Some kept }
+    /// Keeps the earlier of the one that was noted last and of what the id named before.
+    fn keep_earlier(&mut self, id: &'a str, one: First, kept: First) -> Result<(), AllocError>
+        requires { told_by self.old id.now ≡ Some one }
         ensures { OnOk result ((q : List ℕ) → told_by self.new q ≡ (if bytes_eq id.now q then Some (earlier one kept) else told_by self.old q)) }
     {
-        if is_earlier(one, kept) {
-            self.put(id, one)?;
+        if !is_earlier(one, kept) {
+            self.put(id, kept)?;
         }
         Ok(())
     }
@@ -84,12 +84,12 @@ impl<'a> Names<'a> {
         self.index.get(id).copied()
     }
 
-    /// Keeps the first that has an id.
-    fn put(&mut self, id: &'a str, first: First) -> Result<(), AllocError>
-        ensures { OnOk result ((q : List ℕ) → told_by self.new q ≡ (if bytes_eq id.now q then Some first else told_by self.old q)) }
+    /// Notes what an id names, and answers what it named before.
+    fn put(&mut self, id: &'a str, first: First) -> Result<Option<First>, AllocError>
+        ensures put { OnOk result ((q : List ℕ) → told_by self.new q ≡ (if bytes_eq id.now q then Some first else told_by self.old q)) }
+        ensures before { IfOk result (λ before. before ≡ told_by self.old id.now) }
     {
-        self.index.insert(id, first)?;
-        Ok(())
+        Ok(self.index.insert(id, first)?)
     }
 }
 

@@ -3,10 +3,11 @@
 ghost use Rattle.std.specs.Prelude.{◌≡◌, ◌++◌, ◌∷◌, [], ◌<◌, length, map, Some, IfOk, IfSome, OnOk, if◌then◌else◌};
 ghost use Rattle.std.specs.List.{Contains, slice_get};
 ghost use Rattle.pn_net.specs.Flattening.{arc_of_flat, in_one, net_of_flat, page_of_objects, place_id, source_id, target_id, transition_id};
+ghost use Rattle.pn_net.specs.Typed.{IsWired};
 ghost use Rattle.pn_net.specs.declared.flat.FlatArc.{FlatArc};
 ghost use Rattle.pn_pages.specs.Flat.{HasEnds};
 
-use pn_net::{Flat, FlatArc};
+use pn_net::{Flat, FlatArc, Typed};
 use pn_objects::{Arc, Head, Label, Net, Page, Place, Prefix, Transition};
 use pn_syntax::Declaration;
 use pn_text::Text;
@@ -20,8 +21,27 @@ pub fn flat_net(alloc: Global, flat: &Flat) -> Result<Net, AllocError>
     requires { (a : FlatArc) → Contains flat.now.arcs a → HasEnds flat.now a }
     ensures { IfOk result (λ net. net ≡ net_of_flat flat.now) }
 {
+    let arcs = arcs_of(alloc, flat)?;
+    net_with(alloc, flat, arcs)
+}
+
+/// The flat net of a typed net as a net of one page, as `flat_net` makes it. Its arcs name the ids of
+/// their ends already, so no place or transition is looked at for an arc.
+pub fn typed_net(alloc: Global, net: &Typed) -> Result<Net, AllocError>
+    ensures { IfOk result (λ made. made ≡ net_of_flat net.now) }
+{
+    let flat = net.flat();
+    let arcs = named_arcs(alloc, flat)?;
+    net_with(alloc, flat, arcs)
+}
+
+/// A flat net as a net of one page, with its arcs.
+fn net_with(alloc: Global, flat: &Flat, arcs: Items<Arc>) -> Result<Net, AllocError>
+    requires { arcs ≡ map (arc_of_flat flat.now) flat.now.arcs }
+    ensures { IfOk result (λ net. net ≡ net_of_flat flat.now) }
+{
     let declarations = in_one_label(alloc, flat.declarations.as_slice())?;
-    let pages = one_page(alloc, flat)?;
+    let pages = one_page(alloc, flat, arcs)?;
     Ok(Net {
         id: flat.id.copy(alloc)?,
         kind: flat.kind,
@@ -84,10 +104,9 @@ fn copy_prefix(alloc: Global, prefix: &Prefix) -> Result<Prefix, AllocError>
     })
 }
 
-/// The page of a flat net, alone in a list.
-fn one_page(alloc: Global, flat: &Flat) -> Result<Items<Page>, AllocError>
-    requires { (a : FlatArc) → Contains flat.now.arcs a → HasEnds flat.now a }
-    ensures { IfOk result (λ pages. pages ≡ page_of_objects flat.now.page_id flat.now.page_head flat.now.places flat.now.transitions (map (arc_of_flat flat.now) flat.now.arcs) ∷ []) }
+/// The page of a flat net with these arcs, alone in a list.
+fn one_page(alloc: Global, flat: &Flat, arcs: Items<Arc>) -> Result<Items<Page>, AllocError>
+    ensures { IfOk result (λ pages. pages ≡ page_of_objects flat.now.page_id flat.now.page_head flat.now.places flat.now.transitions arcs ∷ []) }
 {
     let mut pages = Items::new(alloc);
     pages.push(Page {
@@ -98,7 +117,7 @@ fn one_page(alloc: Global, flat: &Flat) -> Result<Items<Page>, AllocError>
         transitions: copy_transitions(alloc, flat.transitions.as_slice())?,
         place_refs: Items::new(alloc),
         transition_refs: Items::new(alloc),
-        arcs: arcs_of(alloc, flat)?,
+        arcs,
         pages: Items::new(alloc),
         at: 0,
     })?;
@@ -152,6 +171,26 @@ fn arc_within(alloc: Global, flat: &Flat, arc: &FlatArc) -> Result<Arc, AllocErr
         .as_str();
     name_ends(alloc, &mut named, arc.into_place, place, transition)?;
     Ok(named)
+}
+
+/// The arcs of a flat net, where each names the ids of its ends.
+fn named_arcs(alloc: Global, flat: &Flat) -> Result<Items<Arc>, AllocError>
+    requires { (a : FlatArc) → Contains flat.now.arcs a → IsWired flat.now a }
+    ensures { IfOk result (λ arcs. arcs ≡ map (arc_of_flat flat.now) flat.now.arcs) }
+{
+    let mut all = Items::new(alloc);
+    for arc in flat.arcs.as_slice() {
+        all.push(named_arc(alloc, flat, arc)?)?;
+    }
+    Ok(all)
+}
+
+/// An arc of a flat net, where it names the ids of its ends.
+fn named_arc(alloc: Global, _flat: &Flat, arc: &FlatArc) -> Result<Arc, AllocError>
+    requires { IsWired _flat.now arc.now }
+    ensures { IfOk result (λ named. named ≡ arc_of_flat _flat.now arc.now) }
+{
+    arc.arc.copy(alloc)
 }
 
 /// Names the ends of an arc.

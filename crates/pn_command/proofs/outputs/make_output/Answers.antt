@@ -10,4 +10,4 @@ returns-in-Check c = λ n flat. gives_summary c.args.asked n c.args.checked c.su
 pub returns-in_ok-flat_tree-in-Flatten : goal.returns-in_ok-flat_tree-in-Flatten
 returns-in_ok-flat_tree-in-Flatten c = λ n flat.
     gives_tree c.args.asked n c.args.checked c.in_ok-flat_tree-in-Flatten.field-0 c.in-Flatten.is
-    (c.in_ok-flat_tree-in-Flatten.ensures ∙ ap (λ f. tree_of_net (net_of_flat f)) (c.flat.ensures.flat ∙ c.typed.ensures)) flat
+    (c.in_ok-flat_tree-in-Flatten.ensures ∙ ap (λ f. tree_of_net (net_of_flat f)) c.typed.ensures) flat
