@@ -1,9 +1,11 @@
 pub mod AroundLemmas
+pub mod CauseLemmas
 pub mod ChoiceLemmas
 pub mod ConjunctLemmas
 pub mod CutLemmas
 pub mod FrontLemmas
 pub mod KnownLemmas
+pub mod ListingLemmas
 pub mod PlanLemmas
 pub mod SiftLemmas
 pub mod StepLemmas

@@ -80,7 +80,7 @@ values_contained : (modes : List Mode) (m : Mode) → Contains modes m → Conta
 values_contained modes m c =
     let p = at_contains modes m c in contains_at (map values_of modes) p.0 m.values (slice_get-map values_of modes p.0 ∙ ap (option_map values_of) p.1)
 
-same_transition : (t : ℕ) (m n : Mode) → m.transition ≡ t → n.transition ≡ t → mode_cmp m n ≡ slice_cmp value_cmp m.values n.values
+pub same_transition : (t : ℕ) (m n : Mode) → m.transition ≡ t → n.transition ≡ t → mode_cmp m n ≡ slice_cmp value_cmp m.values n.values
 same_transition t m n is also =
     let tied : nat_cmp t t ≡ Equal = grind (arith, nat_tests) in
     ap (λ o. ordering_then o (slice_cmp value_cmp m.values n.values)) (ap (λ k. nat_cmp k n.transition) is ∙ ap (nat_cmp t) also ∙ tied)

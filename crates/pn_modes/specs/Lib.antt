@@ -1,6 +1,9 @@
 pub mod Carriers
+pub mod Causes
 pub mod Enabled
+pub mod Listed
 pub mod Parts
 pub mod Prunes
 pub mod Search
+pub mod Searching
 pub mod Sizes

@@ -1,9 +1,10 @@
 //! The sorts of the variables of a transition, and how many values they have.
 
-ghost use Rattle.std.specs.Prelude.{◌≡◌, ◌<◌, ℕ, length, IfOk, true};
+ghost use Rattle.std.specs.Prelude.{◌≡◌, ◌<◌, ℕ, length, IfOk};
 ghost use Rattle.std.specs.List.{AllZip, Contains};
 ghost use Rattle.pn_carriers.specs.Carriers.{is_finite};
 ghost use Rattle.pn_carriers.specs.Sizes.{capped_size, size_of_product};
+ghost use Rattle.pn_modes.specs.Causes.{is_infinite};
 ghost use Rattle.pn_modes.specs.Sizes.{is_large};
 ghost use Rattle.pn_names.specs.Names.{variables_of, widths_of};
 ghost use Rattle.pn_sorts.specs.Lookups.{IsVariableSort};
@@ -13,11 +14,15 @@ use pn_sorts::{Decls, Size, Sort};
 use sqlite_items::Items;
 use std::alloc::{AllocError, Global};
 
-/// The most values of a sort that are searched.
-const MOST: u128 = 16_777_216;
+/// The most values of a sort that are searched, and the most assignments that are listed.
+pub(crate) const MOST: u128 = 16_777_216;
 
 /// The sorts of variables.
-pub fn sorts_of(alloc: Global, decls: &Decls, vars: &[u32]) -> Result<Items<Sort>, AllocError>
+pub(crate) fn sorts_of(
+    alloc: Global,
+    decls: &Decls,
+    vars: &[u32],
+) -> Result<Items<Sort>, AllocError>
     requires faultless { IsFaultless decls.now }
     requires declared { (v : ℕ) → Contains vars.now v → v < length (variables_of decls.now) }
     ensures { IfOk result (λ sorts. AllZip (IsVariableSort decls.now) vars.now sorts) }
@@ -29,9 +34,18 @@ pub fn sorts_of(alloc: Global, decls: &Decls, vars: &[u32]) -> Result<Items<Sort
     Ok(sorts)
 }
 
-/// Whether a finite sort has too many values to be searched.
-pub fn is_too_large(decls: &Decls, sort: &Sort) -> bool
-    requires { is_finite sort.now ≡ true }
+/// Whether a sort has infinitely many values.
+pub(crate) fn is_infinite(decls: &Decls, sort: &Sort) -> bool
+    ensures { result ≡ is_infinite sort.now }
+{
+    match decls.size(sort) {
+        Size::Finite(_) => false,
+        Size::Infinite => true,
+    }
+}
+
+/// Whether a sort has too many values to be searched.
+pub(crate) fn is_too_large(decls: &Decls, sort: &Sort) -> bool
     ensures { result ≡ is_large (widths_of decls.now) sort.now }
 {
     match decls.size(sort) {
@@ -41,7 +55,7 @@ pub fn is_too_large(decls: &Decls, sort: &Sort) -> bool
 }
 
 /// How many assignments there are of values to variables of these sorts, capped at 2^64.
-pub fn assignments(decls: &Decls, sorts: Items<Sort>) -> Size
+pub(crate) fn assignments(decls: &Decls, sorts: Items<Sort>) -> Size
     ensures { result ≡ capped_size (size_of_product (widths_of decls.now) sorts) }
 {
     let product = Sort::Product(sorts);

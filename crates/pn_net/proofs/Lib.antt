@@ -1,3 +1,4 @@
+pub mod DeclaredLemmas
 pub mod OrderLemmas
 pub mod RowLemmas
 pub mod NameLemmas

@@ -2,7 +2,7 @@ use Rattle.std.proofs.Common.{◌<◌, ap, ◌∙◌, sym, subst, length}
 use Rattle.pn_names.specs.Names.{variables_of}
 use Rattle.pn_mode_text.specs.Texts.{mode_text}
 use Rattle.pn_mode_text.proofs.NetLemmas.{assigned_to, is_mode_text}
-use Rattle.pn_mode_text.proofs.VariableLemmas.{are_declared}
+use Rattle.pn_net.proofs.DeclaredLemmas.{are_declared}
 use Rattle.pn_mode_text.proofs.modes.put_mode.Goals as goal
 
 pub have_sorts-requires-clause-declared : goal.have_sorts-requires-clause-declared
