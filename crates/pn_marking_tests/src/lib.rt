@@ -5,5 +5,3 @@
 mod firing;
 #[cfg(test)]
 mod modes;
-#[cfg(test)]
-mod nets;

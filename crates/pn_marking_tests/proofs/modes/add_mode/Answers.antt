@@ -1,6 +1,6 @@
 use Rattle.std.proofs.Common.{rules}
 use Rattle.pn_marking.specs.Modes.{IsMode}
-use Rattle.pn_marking_tests.proofs.ModeLemmas.{still_modes}
+use Rattle.pn_net_samples.proofs.ModeLemmas.{still_modes}
 use Rattle.pn_marking_tests.proofs.modes.add_mode.Goals as goal
 
 pub returns : goal.returns

@@ -2,7 +2,7 @@ use Rattle.std.proofs.Common.{◌∙◌, subst, sym}
 use Rattle.pn_carriers.specs.Members.{IsMember}
 use Rattle.pn_names.specs.Names.{widths_of}
 use Rattle.pn_terms.proofs.SortLemmas.{variable_once}
-use Rattle.pn_marking_tests.proofs.modes.is_member.Goals as goal
+use Rattle.pn_net_samples.proofs.modes.is_member.Goals as goal
 
 pub returns : goal.returns
 returns c is sort of =

@@ -1,7 +1,7 @@
 use Rattle.std.proofs.Common.{◌≡◌, ◌∷◌, [], length, get_or, sym, ap, ◌∙◌, arith}
 use Rattle.std.proofs.lemmas.Bool.{eqb-false}
-use Rattle.pn_marking_tests.proofs.ModeLemmas.{one_variable, only_one}
-use Rattle.pn_marking_tests.proofs.modes.are_assigned.Goals as goal
+use Rattle.pn_net_samples.proofs.ModeLemmas.{one_variable, only_one}
+use Rattle.pn_net_samples.proofs.modes.are_assigned.Goals as goal
 
 pub returns : goal.returns
 returns c is =
