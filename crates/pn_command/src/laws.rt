@@ -1,8 +1,17 @@
 //! Laws of what the program answers. Each is a function with an empty body, and its clause is the
 //! law.
 
+ghost use Rattle.std.specs.Prelude.{◌↔◌, ℕ, List};
+ghost use Rattle.pn_checks.specs.Initial.{IsInitial};
+ghost use Rattle.pn_checks.specs.Linked.{IsLinked};
 ghost use Rattle.pn_checks.specs.Verdicts.{IsAccepted};
-ghost use Rattle.pn_net.specs.Flattening.{IsFlattened};
+ghost use Rattle.pn_flat_laws.specs.AlikeNets.{AreAlikeNets};
+ghost use Rattle.pn_marking.specs.Steps.{IsStep};
+ghost use Rattle.pn_markup.specs.Document.{IsDocument};
+ghost use Rattle.pn_net.specs.Flattening.{IsFlattened, net_of_flat};
+ghost use Rattle.pn_net.specs.declared.flat.Flat.{Flat};
+ghost use Rattle.pn_net.specs.declared.mode.Mode.{Mode};
+ghost use Rattle.pn_net.specs.declared.token.Token.{Token};
 ghost use Rattle.pn_objects.specs.declared.net.Net.{Net};
 ghost use Rattle.pn_spelling.specs.ReadNets.{net_of};
 ghost use Rattle.pn_spelling.specs.WriteNets.{tree_of_net};
@@ -16,4 +25,17 @@ ghost use Rattle.pn_command.specs.Written.{SpellsNet};
 pub fn what_is_written_spells_the_flat_net()
     ensures { (tree : Element) (flat : Net) → IsTree tree → IsAccepted tree → IsFlattened (net_of tree) flat
         → SpellsNet flat (canonical_text (tree_of_net flat)) }
+{}
+
+/// `flatten` keeps every step: where a document is accepted, and another is what is written of its flat
+/// net, the flat nets of both have places, transitions, variables and declarations under the same numbers, the
+/// same steps from each marking, and the same initial marking (ISO/IEC 15909-1, enabling and
+/// transition rule).
+pub fn what_is_written_keeps_every_step()
+    ensures alike { (tree other : Element) (f g : Flat) → IsAccepted tree → IsLinked tree f → IsDocument other (canonical_text (tree_of_net (net_of_flat f))) → IsLinked other g
+        → AreAlikeNets f g }
+    ensures steps { (tree other : Element) (f g : Flat) → IsAccepted tree → IsLinked tree f → IsDocument other (canonical_text (tree_of_net (net_of_flat f))) → IsLinked other g
+        → (old new : List (Token × ℕ)) (modes : List (Mode × ℕ)) → IsStep f old modes new ↔ IsStep g old modes new }
+    ensures initial { (tree other : Element) (f g : Flat) → IsAccepted tree → IsLinked tree f → IsDocument other (canonical_text (tree_of_net (net_of_flat f))) → IsLinked other g
+        → (marking : List (Token × ℕ)) → IsInitial f marking ↔ IsInitial g marking }
 {}

@@ -1,0 +1,2 @@
+pub mod AlikeNetLemmas
+pub mod ReadBackLemmas
