@@ -166,11 +166,11 @@ fn few_assignments(decls: &Decls, vars: &[u32], sorts: Items<Sort>) -> Result<u1
     if let Some(v) = first_infinite(decls, vars, sorts.as_slice()) {
         return Err(ModesFault::InfiniteSort(v));
     }
-    few_of(assignments(decls, sorts))
+    within_limit(assignments(decls, sorts))
 }
 
 /// A number of assignments, where it is no more than are listed.
-fn few_of(size: Size) -> Result<u128, ModesFault>
+fn within_limit(size: Size) -> Result<u128, ModesFault>
     requires { (n : ℕ) × (size ≡ capped_size (Some n)) }
     ensures few { IfOk result (λ told. (size ≡ sizes.Finite told) × (told ≤ most_assignments)) }
     ensures infinite { (v : ℕ) → result ≡ Err (ModesFault.InfiniteSort v) → ⊥ }

@@ -1,6 +1,6 @@
 //! The test of a front of an assignment: the values of the first variables of a transition.
 
-ghost use Rattle.std.specs.Prelude.{◌≡◌, ◌<◌, ◌^◌, ℕ, List, true, false, length, Some, IfOk, IsTrue, option_copied};
+ghost use Rattle.std.specs.Prelude.{◌≡◌, ◌↔◌, ◌<◌, ◌^◌, ℕ, List, true, false, length, Some, IfOk, IsTrue, option_copied};
 ghost use Rattle.std.specs.List.{Contains};
 ghost use Rattle.pn_bag.specs.Counts.{Includes};
 ghost use Rattle.pn_carriers.specs.Carriers.{carrier, is_finite};
@@ -145,7 +145,7 @@ fn is_wanted(
         return Ok(false);
     }
     match marking {
-        Some(marking) => Ok(marking.includes(&pre(alloc, net, mode)?)),
+        Some(marking) => Ok(has_all(marking, &pre(alloc, net, mode)?)),
         None => Ok(true),
     }
 }
@@ -178,9 +178,22 @@ fn is_there(taken: &Marking, marking: Option<&Marking>) -> bool
     ensures { result ≡ false → (m : List (Token × ℕ)) × (option_copied marking.entry ≡ Some m) × (Includes token_cmp m taken.now → ⊥) }
 {
     match marking {
-        Some(marking) => marking.includes(taken),
+        Some(marking) => has_all(marking, taken),
         None => true,
     }
+}
+
+/// Whether a marking has all of these tokens. Each takes the logarithm of the marking, so that a
+/// front costs what it takes, and not a walk over the marking.
+fn has_all(marking: &Marking, tokens: &Marking) -> bool
+    ensures { IsTrue result ↔ Includes token_cmp marking.now tokens.now }
+{
+    for (token, count) in tokens.iter() {
+        if marking.count(token) < count {
+            return false;
+        }
+    }
+    true
 }
 
 /// Whether an assignment that begins with the front may be wanted, by what needs all of the
