@@ -10,20 +10,19 @@ use Rattle.pn_checks.specs.NoValue.{SaysMultiset}
 use Rattle.pn_checks.proofs.DeclarationAlikeLemmas.{widths_same}
 use Rattle.pn_checks.proofs.LabelAlikeLemmas.{condition_bare, inscription_bare, marking_bare, place_sort_alike}
 use Rattle.pn_checks.proofs.ValueAlikeLemmas.{value_alike}
-use Rattle.pn_eval.specs.Assignments.{IsAssignment, value_of_variable}
-use Rattle.pn_eval.specs.Values.{HasValue}
-use Rattle.pn_marking.specs.Modes.{HoldsCondition, IsAssigned, IsMode, IsModeBy, IsPost, IsPre}
-use Rattle.pn_marking.specs.Steps.{AreModes, ArePut, AreTaken, IsEnabled, IsEnabledBy, IsStep, IsStepBy}
-use Rattle.pn_marking.specs.Totals.{AreTokensOf, IsArcBag, IsMoved, IsMovedBy, IsTokenOf, SaysBag, arcs_at, count_at, leads, sum_at}
-use Rattle.pn_names.specs.Names.{Variable, variables_of, widths_of}
+use Rattle.pn_eval.specs.Assignments.{IsAssignment}
+use Rattle.pn_marking.specs.Modes.{HoldsCondition, IsAssigned, IsMode, IsPost, IsPre}
+use Rattle.pn_marking.specs.Steps.{IsEnabled, IsEnabledBy, IsStep}
+use Rattle.pn_marking.specs.Totals.{IsArcBag, IsMoved, IsTokenOf, SaysBag, arcs_at, count_at, leads, sum_at}
+use Rattle.pn_names.specs.Names.{Variable, variables_of}
 use Rattle.pn_net.proofs.AlikeLemmas.{alike_get}
 use Rattle.pn_net.specs.Labels.{said}
-use Rattle.pn_net.specs.Typed.{AreVariablesAt, condition_at, condition_of, is_at, terms_at, terms_of}
+use Rattle.pn_net.specs.Typed.{AreVariablesAt, condition_at, condition_of, is_at, terms_at}
 use Rattle.pn_net.specs.declared.flat.Flat.{Flat}
 use Rattle.pn_net.specs.declared.flat.FlatArc.{FlatArc}
 use Rattle.pn_net.specs.declared.mode.Mode.{Mode}
 use Rattle.pn_net.specs.declared.token.Token.{Token}
-use Rattle.pn_objects.specs.Offsets.{arc_without_offsets, label_without_offsets, place_without_offsets, transition_without_offsets}
+use Rattle.pn_objects.specs.Offsets.{label_without_offsets, place_without_offsets, transition_without_offsets}
 use Rattle.pn_objects.specs.declared.label.Label.{Label}
 use Rattle.pn_objects.specs.declared.object.Place.{Place}
 use Rattle.pn_objects.specs.declared.object.Transition.{Transition}
@@ -34,7 +33,6 @@ use Rattle.pn_syntax.specs.Offsets.{declaration_without_offsets, sort_without_of
 use Rattle.pn_syntax.specs.TermOffsets.{term_without_offsets}
 use Rattle.pn_syntax.specs.declared.declaration.Declaration.{Declaration}
 use Rattle.pn_syntax.specs.declared.declaration.Declaration.TheVariants as declarations
-use Rattle.pn_syntax.specs.declared.sort_expr.SortExpr.{SortExpr}
 use Rattle.pn_syntax.specs.declared.term.Term.{Term}
 use Rattle.pn_terms.proofs.OffsetLemmas.{variables_aside}
 use Rattle.pn_terms.specs.Variables.{variables_in_term}

@@ -1,2 +1,4 @@
 pub mod AlikeNetLemmas
+pub mod EndLemmas
 pub mod ReadBackLemmas
+pub mod OneFlatLemmas

@@ -1,7 +1,7 @@
 //! The laws of flat nets that are equal but for offsets. Each function does nothing; its contract is
 //! the law.
 
-ghost use Rattle.std.specs.Prelude.{◌↔◌, ℕ, List};
+ghost use Rattle.std.specs.Prelude.{◌≡◌, ◌↔◌, ℕ, List};
 ghost use Rattle.pn_checks.specs.Initial.{IsInitial};
 ghost use Rattle.pn_checks.specs.Linked.{IsLinked};
 ghost use Rattle.pn_flat_laws.specs.AlikeNets.{AreAlikeNets};
@@ -34,4 +34,9 @@ pub fn alike_nets_have_the_same_steps()
 /// alike. What is written of a flat net is read back so.
 pub fn what_is_read_back_is_alike()
     ensures { (tree other : Element) (f g : Flat) → IsLinked tree f → IsLinked other g → IsSameNet (net_of other) (net_of_flat f) → AreAlikeNets f g }
+{}
+
+/// A document has one flat net (ISO/IEC 15909-2, pages and references).
+pub fn a_document_has_one_flat_net()
+    ensures { (tree : Element) (f g : Flat) → IsLinked tree f → IsLinked tree g → f ≡ g }
 {}
