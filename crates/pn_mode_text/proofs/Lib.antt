@@ -2,3 +2,4 @@ pub mod PieceLemmas
 pub mod TextLemmas
 pub mod VariableLemmas
 pub mod NetLemmas
+pub mod OneTextLemmas
