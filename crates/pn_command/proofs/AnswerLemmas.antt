@@ -29,41 +29,47 @@ use Rattle.pn_command.specs.Words.{asked_of}
 accepted_and_told : (tree : Element) (f : Fault) → IsAccepted tree → IsLeastInTree tree f → ⊥
 accepted_and_told tree f p q = p f q.least.0
 
--- a command answers a net in one way
-net_once : (asked : Asked) (tree : Element) (a b : Answer) → IsAccepted tree → IsDueForNet asked (net_of tree) a → IsDueForNet asked (net_of tree) b → b ≡ a
-net_once asked tree a b taken (output_too_long x is p g) (output_too_long y also q h) = h ∙ sym g
-net_once asked tree a b taken (output_too_long x is p g) (given y also q h) = absurd (q (subst (IsOver asked) (one_output asked tree x y taken is also) p))
-net_once asked tree a b taken (given x is p g) (output_too_long y also q h) = absurd (p (subst (IsOver asked) (sym (one_output asked tree x y taken is also)) q))
-net_once asked tree a b taken (given x is p g) (given y also q h) = h ∙ ap output_answer (sym (one_output asked tree x y taken is also)) ∙ sym g
+-- a command answers a flat net in one way
+net_once : (asked : Asked) (words : List (List ℕ)) (f : Flat) (a b : Answer) → IsFaultless f.declarations → IsDueForNet asked words f a → IsDueForNet asked words f b → b ≡ a
+net_once asked words f a b sound (stopped l is g) (stopped k also h) = h ∙ ap line_answer (one_line asked words f k l also is) ∙ sym g
+net_once asked words f a b sound (stopped l is g) (output_too_long y also q h) = absurd (line_or_output asked words f l y is also)
+net_once asked words f a b sound (stopped l is g) (given y also q h) = absurd (line_or_output asked words f l y is also)
+net_once asked words f a b sound (output_too_long x is p g) (stopped k also h) = absurd (line_or_output asked words f k x also is)
+net_once asked words f a b sound (output_too_long x is p g) (output_too_long y also q h) = h ∙ sym g
+net_once asked words f a b sound (output_too_long x is p g) (given y also q h) = absurd (q (subst (IsOver asked) (one_output asked words f x y sound is also) p))
+net_once asked words f a b sound (given x is p g) (stopped k also h) = absurd (line_or_output asked words f k x also is)
+net_once asked words f a b sound (given x is p g) (output_too_long y also q h) = absurd (p (subst (IsOver asked) (one_output asked words f y x sound also is) q))
+net_once asked words f a b sound (given x is p g) (given y also q h) = h ∙ ap output_answer (one_output asked words f y x sound also is) ∙ sym g
 
 -- and a tree whose offsets rise
-tree_once : (asked : Asked) (tree : Element) (a b : Answer) → HasRisingOffsets tree → IsDueForTree asked tree a → IsDueForTree asked tree b → b ≡ a
-tree_once asked tree a b rises (faulty f p g) (faulty e q h) = h ∙ ap (λ x. refusal_answer (refusals.Fault x)) (least_fault_is_one tree rises e f q p) ∙ sym g
-tree_once asked tree a b rises (faulty f p g) (for_net q h) = absurd (accepted_and_told tree f q p)
-tree_once asked tree a b rises (for_net p g) (faulty e q h) = absurd (accepted_and_told tree e p q)
-tree_once asked tree a b rises (for_net p g) (for_net q h) = net_once asked tree a b p g h
+tree_once : (asked : Asked) (words : List (List ℕ)) (tree : Element) (a b : Answer) → HasRisingOffsets tree → IsDueForTree asked words tree a → IsDueForTree asked words tree b → b ≡ a
+tree_once asked words tree a b rises (faulty f p g) (faulty e q h) = h ∙ ap (λ x. refusal_answer (refusals.Fault x)) (least_fault_is_one tree rises e f q p) ∙ sym g
+tree_once asked words tree a b rises (faulty f p g) (for_net k q h) = absurd (accepted_and_told tree f q.accepted p)
+tree_once asked words tree a b rises (for_net f p g) (faulty e q h) = absurd (accepted_and_told tree e p.accepted q)
+tree_once asked words tree a b rises (for_net f p g) (for_net k q h) =
+    net_once asked words f a b (declared_sound tree f p.accepted p.linked.is_flat) g (subst (λ x. IsDueForNet asked words x b) (one_flat tree k f q.linked p.linked) h)
 
 -- for an input and a command one answer is due at most
-pub due_once : (asked : Asked) (bytes : List ℕ) (a b : Answer) → IsDueFor asked bytes a → IsDueFor asked bytes b → b ≡ a
-due_once asked bytes a b (input_too_long p g) (input_too_long q h) = h ∙ sym g
-due_once asked bytes a b (input_too_long p g) (broken j q h) = absurd (q.fits p)
-due_once asked bytes a b (input_too_long p g) (for_tree t q h) = let large = p.longer in let small = q.within in absurd (omega arith)
-due_once asked bytes a b (broken k p g) (input_too_long q h) = absurd (p.fits q)
-due_once asked bytes a b (broken k p g) (broken j q h) = h ∙ ap (λ m. refusal_answer (refusals.Broken m)) (one_break bytes j k q.breaks p.breaks) ∙ sym g
-due_once asked bytes a b (broken k p g) (for_tree t q h) = absurd (p.no_document t q.is_document)
-due_once asked bytes a b (for_tree s p g) (input_too_long q h) = let large = q.longer in let small = p.within in absurd (omega arith)
-due_once asked bytes a b (for_tree s p g) (broken j q h) = absurd (q.no_document s p.is_document)
-due_once asked bytes a b (for_tree s p g) (for_tree t q h) =
-    tree_once asked s a b (document_rises s bytes p.is_document) g (subst (λ x. IsDueForTree asked x b) (one_tree t s bytes q.is_document p.is_document) h)
+pub due_once : (asked : Asked) (words : List (List ℕ)) (bytes : List ℕ) (a b : Answer) → IsDueFor asked words bytes a → IsDueFor asked words bytes b → b ≡ a
+due_once asked words bytes a b (input_too_long p g) (input_too_long q h) = h ∙ sym g
+due_once asked words bytes a b (input_too_long p g) (broken j q h) = absurd (q.fits p)
+due_once asked words bytes a b (input_too_long p g) (for_tree t q h) = let large = p.longer in let small = q.within in absurd (omega arith)
+due_once asked words bytes a b (broken k p g) (input_too_long q h) = absurd (p.fits q)
+due_once asked words bytes a b (broken k p g) (broken j q h) = h ∙ ap (λ m. refusal_answer (refusals.Broken m)) (one_break bytes j k q.breaks p.breaks) ∙ sym g
+due_once asked words bytes a b (broken k p g) (for_tree t q h) = absurd (p.no_document t q.is_document)
+due_once asked words bytes a b (for_tree s p g) (input_too_long q h) = let large = q.longer in let small = p.within in absurd (omega arith)
+due_once asked words bytes a b (for_tree s p g) (broken j q h) = absurd (q.no_document s p.is_document)
+due_once asked words bytes a b (for_tree s p g) (for_tree t q h) =
+    tree_once asked words s a b (document_rises s bytes p.is_document) g (subst (λ x. IsDueForTree asked words x b) (one_tree t s bytes q.is_document p.is_document) h)
 
 -- what is due for the words
-due_for_words : (words : List (List ℕ)) (asked : Asked) (bytes : List ℕ) (a : Answer) → asked_of words ≡ Some asked → IsDueFor asked bytes a → IsTheDue words bytes a
+due_for_words : (words : List (List ℕ)) (asked : Asked) (bytes : List ℕ) (a : Answer) → asked_of words ≡ Some asked → IsDueFor asked words bytes a → IsTheDue words bytes a
 due_for_words words asked bytes a asks h = record {
-  is = subst (λ o. MatchOption o (a ≡ usage_answer) (λ x. IsDueFor x bytes a)) (sym asks) h;
-  only = λ other it. due_once asked bytes a other h (subst (λ o. MatchOption o (other ≡ usage_answer) (λ x. IsDueFor x bytes other)) asks it);
+  is = subst (λ o. MatchOption o (a ≡ usage_answer) (λ x. IsDueFor x words bytes a)) (sym asks) h;
+  only = λ other it. due_once asked words bytes a other h (subst (λ o. MatchOption o (other ≡ usage_answer) (λ x. IsDueFor x words bytes other)) asks it);
 }
 
-pub said_for_words : (words : List (List ℕ)) (asked : Asked) (bytes : List ℕ) (d : Due) → asked_of words ≡ Some asked → SaysSuch (IsDueFor asked bytes) d → SaysSuch (IsTheDue words bytes) d
+pub said_for_words : (words : List (List ℕ)) (asked : Asked) (bytes : List ℕ) (d : Due) → asked_of words ≡ Some asked → SaysSuch (IsDueFor asked words bytes) d → SaysSuch (IsTheDue words bytes) d
 said_for_words words asked bytes d asks said = (said.0, said.1, due_for_words words asked bytes said.0 asks said.2)
 
 -- where the words ask for nothing
@@ -72,8 +78,8 @@ said_for_none words bytes asks = (
   usage_answer,
   refl,
   record {
-    is = subst (λ o. MatchOption o (usage_answer ≡ usage_answer) (λ x. IsDueFor x bytes usage_answer)) (sym asks) refl;
-    only = λ other it. subst (λ o. MatchOption o (other ≡ usage_answer) (λ x. IsDueFor x bytes other)) asks it;
+    is = subst (λ o. MatchOption o (usage_answer ≡ usage_answer) (λ x. IsDueFor x words bytes usage_answer)) (sym asks) refl;
+    only = λ other it. subst (λ o. MatchOption o (other ≡ usage_answer) (λ x. IsDueFor x words bytes other)) asks it;
   },
 )
 
@@ -97,12 +103,29 @@ all_given (Some xs) (Some ys) bytes P taken end p = subst P (sym (taken ∙ ap (
 
 -- ---- what is said of a net and of a tree
 
-pub said_too_long : (asked : Asked) (n : Net) (o : Output) → GivesOutput asked n o → IsLong o → (x : Answer) × (x ≡ limit_answer limits.Output) × IsDueForNet asked n x
-said_too_long asked n o gives long = (limit_answer limits.Output, refl, output_too_long gives.text gives.is_output (gives.over long) refl)
+pub said_too_long : (asked : Asked) (words : List (List ℕ)) (f : Flat) (d : Due) → IsGiven asked words f d → IsLongDue d → (x : Answer) × (x ≡ limit_answer limits.Output) × IsDueForNet asked words f x
+said_too_long asked words f (due.Line l) gives long = absurd long
+said_too_long asked words f (due.Output o) gives long = (limit_answer limits.Output, refl, output_too_long gives.text gives.is_output (gives.over long) refl)
 
-pub said_given : (asked : Asked) (n : Net) (o : Output) → GivesOutput asked n o → (IsLong o → ⊥) → (x : Answer) × ((text : List ℕ) × HasText o text × (x ≡ output_answer text)) × IsDueForNet asked n x
-said_given asked n o gives short = (output_answer gives.text, (gives.text, gives.has_text, refl), given gives.text gives.is_output (λ over. short (gives.long over)) refl)
+pub said_given : (asked : Asked) (words : List (List ℕ)) (f : Flat) (d : Due) → IsGiven asked words f d → (IsLongDue d → ⊥) → SaysSuch (IsDueForNet asked words f) d
+said_given asked words f (due.Line l) is short = (line_answer l, refl, stopped l is refl)
+said_given asked words f (due.Output o) gives short = (output_answer gives.text, (gives.text, gives.has_text, refl), given gives.text gives.is_output (λ over. short (gives.long over)) refl)
 
-pub refused_due : (asked : Asked) (tree : Element) (r : Refusal) → IsRefusal tree r → HasRisingOffsets tree → IsDueForTree asked tree (refusal_answer r)
-refused_due asked tree (refusals.Broken k) is rises = absurd is
-refused_due asked tree (refusals.Fault f) is rises = faulty f (is rises) refl
+pub refused_due : (asked : Asked) (words : List (List ℕ)) (tree : Element) (r : Refusal) → IsRefusal tree r → HasRisingOffsets tree → IsDueForTree asked words tree (refusal_answer r)
+refused_due asked words tree (refusals.Broken k) is rises = absurd is
+refused_due asked words tree (refusals.Fault f) is rises = faulty f (is rises) refl
+refused_due asked words tree (refusals.UnknownTransition id) is rises = absurd is
+refused_due asked words tree (refusals.InfiniteSort id) is rises = absurd is
+
+-- a line of a command's own is not that of a usage
+pub own_status : (asked : Asked) (words : List (List ℕ)) (f : Flat) (d : Due) → IsGiven asked words f d → status_of_due d ≡ status.Usage → ⊥
+own_status asked words f (due.Output o) gives is = absurd cc
+own_status Check words f (due.Line l) gives is = absurd gives
+own_status Flatten words f (due.Line l) gives is = absurd gives
+own_status Modes words f (due.Line l) (fault, unlisted, told) is = by fault told
+  where
+    by : (x : ListFault) → line_of_unlisted (argument_of words) x ≡ Some l → ⊥
+    by (unlisted_for.Memory e) line = absurd cc
+    by unlisted_for.UnknownTransition line = let same = same_some _ l _ refl line in never_usage l (subst IsOfNet same tt) is
+    by (unlisted_for.InfiniteSort x) line = let same = same_some _ l _ refl line in never_usage l (subst IsOfNet same tt) is
+    by (unlisted_for.TooManyAssignments n) line = let same = same_some _ l _ refl line in never_usage l (subst IsOfNet same tt) is

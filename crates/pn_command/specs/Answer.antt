@@ -6,8 +6,7 @@ use Rattle.pn_outside.specs.Taking.{Takes, TakesFront}
 use Rattle.pn_tree.specs.declared.element.Element.{Element}
 use Rattle.pn_markup.specs.Document.{IsBreak, IsDocument}
 use Rattle.pn_faults.specs.declared.fault.Fault.{Fault}
-use Rattle.pn_objects.specs.declared.net.Net.{Net}
-use Rattle.pn_spelling.specs.ReadNets.{net_of}
+use Rattle.pn_net.specs.declared.flat.Flat.{Flat}
 use Rattle.pn_scan.specs.Reading.{IsTooLong}
 use Rattle.pn_command.specs.declared.words.Asked.{Asked}
 use Rattle.pn_command.specs.declared.status.Status.{Status}
@@ -22,9 +21,9 @@ use Rattle.pn_command.specs.declared.due.Due.{Due}
 use Rattle.pn_command.specs.declared.due.Due.TheVariants as due
 use Rattle.pn_command.specs.Words.{asked_of}
 use Rattle.pn_command.specs.Lines.{line_text, status_of}
-use Rattle.pn_command.specs.Outputs.{HasText, IsOutput, IsOver}
+use Rattle.pn_command.specs.Outputs.{GivesOutput, HasText, IsLong, IsOutput, IsModesText, IsOver, IsOwnLine, IsUnlistedLine}
 use Rattle.pn_checks.specs.Linked.{IsLeastInTree}
-use Rattle.pn_checks.specs.Verdicts.{IsAccepted}
+use Rattle.pn_command.specs.Verdict.{IsAcceptedAs}
 
 -- how a call ends, and what it writes
 pub record Answer : Type 0 where
@@ -60,25 +59,27 @@ pub record IsInput (tree : Element) (bytes : List ℕ) : Type 0 where
   pub within : length bytes ≤ BYTES
   pub is_document : IsDocument tree bytes
 
--- what is due for a command and a net: a line where its output is longer than it may be, else the output
-pub data IsDueForNet (asked : Asked) (n : Net) (a : Answer) : Type 0 where
-  output_too_long : (text : List ℕ) → IsOutput asked n text → IsOver asked text → a ≡ limit_answer limits.Output → IsDueForNet asked n a
-  given : (text : List ℕ) → IsOutput asked n text → (IsOver asked text → ⊥) → a ≡ output_answer text → IsDueForNet asked n a
+-- what is due for a command, the words and the flat net of a document: the line of the command's own that refuses it, where there is one; a line where its output
+-- is longer than it may be; else the output
+pub data IsDueForNet (asked : Asked) (words : List (List ℕ)) (f : Flat) (a : Answer) : Type 0 where
+  stopped : (l : Line) → IsOwnLine asked words f l → a ≡ line_answer l → IsDueForNet asked words f a
+  output_too_long : (text : List ℕ) → IsOutput asked words f text → IsOver asked text → a ≡ limit_answer limits.Output → IsDueForNet asked words f a
+  given : (text : List ℕ) → IsOutput asked words f text → (IsOver asked text → ⊥) → a ≡ output_answer text → IsDueForNet asked words f a
 
--- what is due for a command and the tree of a document: the least fault that stands in it, where one does, else what the command gives for its net
-pub data IsDueForTree (asked : Asked) (tree : Element) (a : Answer) : Type 0 where
-  faulty : (f : Fault) → IsLeastInTree tree f → a ≡ refusal_answer (refusals.Fault f) → IsDueForTree asked tree a
-  for_net : IsAccepted tree → IsDueForNet asked (net_of tree) a → IsDueForTree asked tree a
+-- what is due for a command and the tree of a document: the least fault that stands in it, where one does, else what the command gives for its flat net
+pub data IsDueForTree (asked : Asked) (words : List (List ℕ)) (tree : Element) (a : Answer) : Type 0 where
+  faulty : (fault : Fault) → IsLeastInTree tree fault → a ≡ refusal_answer (refusals.Fault fault) → IsDueForTree asked words tree a
+  for_net : (f : Flat) → IsAcceptedAs tree f → IsDueForNet asked words f a → IsDueForTree asked words tree a
 
 -- what is due for a command and the bytes of the input, a case for each kind of input: one that is too long, no document, a document
-pub data IsDueFor (asked : Asked) (bytes : List ℕ) (a : Answer) : Type 0 where
-  input_too_long : IsTooLong bytes → a ≡ limit_answer limits.Input → IsDueFor asked bytes a
-  broken : (k : ℕ) → BreaksAt bytes k → a ≡ refusal_answer (refusals.Broken k) → IsDueFor asked bytes a
-  for_tree : (tree : Element) → IsInput tree bytes → IsDueForTree asked tree a → IsDueFor asked bytes a
+pub data IsDueFor (asked : Asked) (words : List (List ℕ)) (bytes : List ℕ) (a : Answer) : Type 0 where
+  input_too_long : IsTooLong bytes → a ≡ limit_answer limits.Input → IsDueFor asked words bytes a
+  broken : (k : ℕ) → BreaksAt bytes k → a ≡ refusal_answer (refusals.Broken k) → IsDueFor asked words bytes a
+  for_tree : (tree : Element) → IsInput tree bytes → IsDueForTree asked words tree a → IsDueFor asked words bytes a
 
 -- what is due for the words and the bytes: the usage line where the words ask for nothing
 abbrev pub IsDue : List (List ℕ) → List ℕ → Answer → Type 0
-IsDue words bytes a = MatchOption (asked_of words) (a ≡ usage_answer) (λ asked. IsDueFor asked bytes a)
+IsDue words bytes a = MatchOption (asked_of words) (a ≡ usage_answer) (λ asked. IsDueFor asked words bytes a)
 
 -- this is due, and nothing else is
 pub record IsTheDue (words : List (List ℕ)) (bytes : List ℕ) (a : Answer) : Type 0 where
@@ -107,6 +108,21 @@ status_of_due (due.Output o) = status.Done
 
 abbrev pub usage_due : Due
 usage_due = due.Line lines.Usage
+
+-- what a command gives for a flat net, however long that is: a line of its own, or its output
+abbrev pub IsGiven : Asked → List (List ℕ) → Flat → Due → Type 0
+IsGiven asked words f (due.Line l) = IsOwnLine asked words f l
+IsGiven asked words f (due.Output o) = GivesOutput asked words f o
+
+-- what `modes` gives for a flat net and an id: the line that tells why, or modes of it whose texts are listed
+abbrev pub IsModesGiven : Flat → List ℕ → Due → Type 0
+IsModesGiven f id (due.Line l) = IsUnlistedLine f id l
+IsModesGiven f id (due.Output o) = (text : List ℕ) × HasText o text × IsModesText f id text × (IsLong o → ⊥)
+
+-- it is an output that is longer than it may be
+abbrev pub IsLongDue : Due → Type 0
+IsLongDue (due.Line l) = ⊥
+IsLongDue (due.Output o) = IsLong o
 
 -- an answer that is written for what was decided is such
 abbrev pub SaysSuch : (Answer → Type 0) → Due → Type 0

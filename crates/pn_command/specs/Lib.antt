@@ -5,3 +5,4 @@ pub mod Verdict
 pub mod Answer
 pub mod Reading
 pub mod Written
+pub mod ModesOfNets

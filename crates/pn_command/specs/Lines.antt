@@ -1,5 +1,6 @@
 -- The lines on the standard error, and the status with which each comes.
 use Rattle.std.specs.Prelude.{ℕ, List, ◌++◌, codes}
+use Rattle.pn_lines.specs.Escapes.{escaped}
 use Rattle.pn_outside.specs.declared.limits.TheConstants.{BYTES}
 use Rattle.pn_report.specs.Lines.{count_text, fault_line}
 use Rattle.pn_command.specs.declared.lines.Limit.{Limit}
@@ -22,11 +23,18 @@ longer_line what = count_text (codes "pnml: limit: " ++ (what ++ codes " longer 
 abbrev pub limit_line : Limit → List ℕ
 limit_line limits.Input = longer_line (codes "input")
 limit_line limits.Output = longer_line (codes "output")
+limit_line (limits.Assignments n) = count_text (codes "pnml: limit: ") n ++ codes " assignments\n"
+
+-- a line that ends with an id, escaped
+abbrev pub named_line : List ℕ → List ℕ → List ℕ
+named_line label id = label ++ (escaped id ++ codes "\n")
 
 -- the line for an input that is refused
 abbrev pub refusal_line : Refusal → List ℕ
 refusal_line (refusals.Broken k) = count_text (codes "pnml: byte ") k ++ codes ": broken\n"
 refusal_line (refusals.Fault f) = fault_line f
+refusal_line (refusals.UnknownTransition id) = named_line (codes "pnml: unknown transition: ") id
+refusal_line (refusals.InfiniteSort id) = named_line (codes "pnml: infinite sort: ") id
 
 abbrev pub line_text : Line → List ℕ
 line_text lines.Usage = usage_line

@@ -1,18 +1,27 @@
--- What the commands give on the standard output.
-use Rattle.std.specs.Prelude.{◌≡◌, ℕ, ◌<◌, List, length}
+-- What the commands give for the flat net of a document: on the standard output, or a line of their own.
+use Rattle.std.specs.Prelude.{◌≡◌, ℕ, ◌<◌, List, length, Option, None, Some}
 use Rattle.pn_checks.specs.Initial.{IsInitial}
-use Rattle.pn_net.specs.Flattening.{IsFlattened, net_of_flat}
+use Rattle.pn_firing.specs.Lines.{HasModeLines}
+use Rattle.pn_firing.specs.Listing.{IsListed, IsUnlisted}
+use Rattle.pn_firing.specs.declared.listing.ListFault.{ListFault}
+use Rattle.pn_firing.specs.declared.listing.ListFault.TheVariants as unlisted
+use Rattle.pn_net.specs.Flattening.{net_of_flat}
 use Rattle.pn_net.specs.declared.flat.Flat.{Flat}
+use Rattle.pn_net.specs.declared.mode.Mode.{Mode}
 use Rattle.pn_net.specs.declared.token.Token.{Token}
-use Rattle.pn_objects.specs.declared.net.Net.{Net}
 use Rattle.pn_outside.specs.declared.limits.TheConstants.{BYTES}
 use Rattle.pn_report.specs.Summaries.{summary_line}
 use Rattle.pn_spelling.specs.WriteNets.{tree_of_net}
 use Rattle.pn_tree.specs.Canonical.{canonical_text}
+use Rattle.pn_command.specs.Words.{argument_of}
+use Rattle.pn_command.specs.declared.lines.Limit.TheVariants as limits
+use Rattle.pn_command.specs.declared.lines.Line.{Line}
+use Rattle.pn_command.specs.declared.lines.Line.TheVariants as lines
+use Rattle.pn_command.specs.declared.lines.Refusal.TheVariants as refusals
 use Rattle.pn_command.specs.declared.outputs.Output.{Output}
 use Rattle.pn_command.specs.declared.outputs.Output.TheVariants as outputs
 use Rattle.pn_command.specs.declared.words.Asked.{Asked}
-use Rattle.pn_command.specs.declared.words.Asked.TheVariants.{Check, Flatten}
+use Rattle.pn_command.specs.declared.words.Asked.TheVariants.{Check, Flatten, Modes}
 
 -- the line that sums a flat net up, with its initial marking
 pub record IsSummed (f : Flat) (text : List ℕ) : Type 0 where
@@ -20,42 +29,61 @@ pub record IsSummed (f : Flat) (text : List ℕ) : Type 0 where
   pub is_initial : IsInitial f initial
   pub is : text ≡ summary_line f initial
 
--- the summary of a net: that of its flat net
-pub record IsSummary (n : Net) (text : List ℕ) : Type 0 where
-  pub flat : Flat
-  pub is_flat : IsFlattened n (net_of_flat flat)
-  pub summed : IsSummed flat text
+-- the canonical text of a flat net
+abbrev pub IsFlatText : Flat → List ℕ → Type 0
+IsFlatText f text = text ≡ canonical_text (tree_of_net (net_of_flat f))
 
--- the canonical text of the flat net of a net
-pub record IsFlatText (n : Net) (text : List ℕ) : Type 0 where
-  pub flat : Net
-  pub is_flat : IsFlattened n flat
-  pub is : text ≡ canonical_text (tree_of_net flat)
+-- the enabled modes of the transition of this id, a line each
+pub record IsModesText (f : Flat) (id : List ℕ) (text : List ℕ) : Type 0 where
+  pub modes : List Mode
+  pub are_listed : IsListed f id modes
+  pub has_lines : HasModeLines f modes text
 
--- what a command gives for a net: `check` its summary, `flatten` the text of its flat net
-abbrev pub IsOutput : Asked → Net → List ℕ → Type 0
-IsOutput Check = IsSummary
-IsOutput Flatten = IsFlatText
+-- what a command gives for a flat net: `check` its summary, `flatten` its text, `modes` the enabled modes of the transition that the word behind it names
+abbrev pub IsOutput : Asked → List (List ℕ) → Flat → List ℕ → Type 0
+IsOutput Check words f text = IsSummed f text
+IsOutput Flatten words f text = IsFlatText f text
+IsOutput Modes words f text = IsModesText f (argument_of words) text
 
--- the text of a net is longer than it may be; a summary has no such limit
+-- the text of a net is longer than it may be; a summary and a list of modes have no such limit
 abbrev pub IsOver : Asked → List ℕ → Type 0
 IsOver Check text = ⊥
 IsOver Flatten text = BYTES < length text
+IsOver Modes text = ⊥
+
+-- the line that tells why the modes of the transition of this id are not listed
+abbrev pub line_of_unlisted : List ℕ → ListFault → Option Line
+line_of_unlisted id (unlisted.Memory e) = None
+line_of_unlisted id unlisted.UnknownTransition = Some (lines.Refusal (refusals.UnknownTransition id))
+line_of_unlisted id (unlisted.InfiniteSort x) = Some (lines.Refusal (refusals.InfiniteSort x))
+line_of_unlisted id (unlisted.TooManyAssignments n) = Some (lines.Limit (limits.Assignments n))
+
+-- it is such a line
+abbrev pub IsUnlistedLine : Flat → List ℕ → Line → Type 0
+IsUnlistedLine f id l = (fault : ListFault) × IsUnlisted f id fault × (line_of_unlisted id fault ≡ Some l)
+
+-- the line that a command gives in place of its output
+abbrev pub IsOwnLine : Asked → List (List ℕ) → Flat → Line → Type 0
+IsOwnLine Check words f l = ⊥
+IsOwnLine Flatten words f l = ⊥
+IsOwnLine Modes words f l = IsUnlistedLine f (argument_of words) l
 
 -- the text of an output that is not written yet
 abbrev pub HasText : Output → List ℕ → Type 0
 HasText (outputs.Summary f) text = IsSummed f text
 HasText (outputs.Net e) text = text ≡ canonical_text e
+HasText (outputs.Modes l) text = HasModeLines l.flat l.modes text
 
 -- an output is the text of a net that is longer than it may be
 abbrev pub IsLong : Output → Type 0
 IsLong (outputs.Summary f) = ⊥
 IsLong (outputs.Net e) = BYTES < length (canonical_text e)
+IsLong (outputs.Modes l) = ⊥
 
--- the output is what a command gives for a net
-pub record GivesOutput (asked : Asked) (n : Net) (o : Output) : Type 0 where
+-- the output is what a command gives for a flat net
+pub record GivesOutput (asked : Asked) (words : List (List ℕ)) (f : Flat) (o : Output) : Type 0 where
   pub text : List ℕ
   pub has_text : HasText o text
-  pub is_output : IsOutput asked n text
+  pub is_output : IsOutput asked words f text
   pub over : IsLong o → IsOver asked text
   pub long : IsOver asked text → IsLong o

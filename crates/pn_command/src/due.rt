@@ -1,23 +1,22 @@
 //! The answer that is due.
 
-ghost use Rattle.std.specs.Prelude.{◌≡◌, ◌≢◌, ◌≤◌, ◌⊎◌, ℕ, List, IfOk, IfSome, Err, Ok, None, map, string_bytes};
+ghost use Rattle.std.specs.Prelude.{◌≡◌, ◌≢◌, ◌≤◌, ◌⊎◌, ◌↔◌, ℕ, List, IfOk, IfSome, IsTrue, Err, Ok, None, map, string_bytes};
 ghost use Rattle.std.specs.Io.KnownBytes.{IsAtEnd};
 ghost use Rattle.pn_checks.specs.Linked.{IsLinked};
 ghost use Rattle.pn_markup.specs.Offsets.{HasRisingOffsets};
-ghost use Rattle.pn_net.specs.Flattening.{IsFlattened, net_of_flat};
-ghost use Rattle.pn_objects.specs.declared.net.Net.{Net};
 ghost use Rattle.pn_tree.specs.declared.element.Element.{Element};
 ghost use Rattle.pn_outside.specs.Cause.{Rose};
-ghost use Rattle.pn_command.specs.Answer.{IsDueFor, IsDueForNet, IsDueForTree, IsTheDue, SaysSuch, status_of_due, usage_due};
+ghost use Rattle.pn_command.specs.Answer.{IsDueFor, IsDueForNet, IsDueForTree, IsGiven, IsLongDue, IsTheDue, SaysSuch, status_of_due, usage_due};
 ghost use Rattle.pn_command.specs.Reading.{IsReadToEnd, IsScanned, ReadsNoFurther, TakesBegun};
 ghost use Rattle.pn_command.specs.Words.{asked_of};
 
 use crate::Status;
 use crate::input::{Scanned, Stop, scan_all};
 use crate::lines::{Limit, Line, Refusal};
-use crate::outputs::{Output, is_long, make_output};
+use crate::listing::list_modes;
+use crate::outputs::{Output, flat_tree, is_long, summary};
 use crate::verdict::{Verdict, find_verdict};
-use crate::words::{Asked, asks};
+use crate::words::{Asked, argument, asks};
 use pn_checks::Checked;
 use pn_outside::Source;
 use pn_tree::Tree;
@@ -30,51 +29,98 @@ pub(crate) enum Due {
     Output(Output),
 }
 
-/// What a command answers for a net.
-fn net_due(alloc: Global, asked: Asked, checked: Checked) -> Result<Due, AllocError>
+/// What a command gives for a net, however long that is.
+fn give(
+    alloc: Global,
+    asked: Asked,
+    words: &[String],
+    checked: Checked,
+) -> Result<Due, AllocError>
     requires linked { (tree : Element) × IsLinked tree checked }
-    ensures due { IfOk result (λ d. (n : Net) → IsFlattened n (net_of_flat checked) → SaysSuch (IsDueForNet asked n) d) }
+    ensures { IfOk result (IsGiven asked (map string_bytes words.now) checked) }
+{
+    match asked {
+        Asked::Check => Ok(Due::Output(summary(checked))),
+        Asked::Flatten => Ok(Due::Output(Output::Net(flat_tree(alloc, &checked)?))),
+        Asked::Modes => list_modes(alloc, checked, argument(words)),
+    }
+}
+
+/// Whether it is an output that is longer than it may be.
+fn is_long_due(due: &Due) -> bool
+    ensures { IsTrue result ↔ IsLongDue due.now }
+{
+    match due {
+        Due::Line(_) => false,
+        Due::Output(output) => is_long(output),
+    }
+}
+
+/// What a command answers for a net.
+fn net_due(
+    alloc: Global,
+    asked: Asked,
+    words: &[String],
+    checked: Checked,
+) -> Result<Due, AllocError>
+    requires linked { (tree : Element) × IsLinked tree checked }
+    ensures due { IfOk result (SaysSuch (IsDueForNet asked (map string_bytes words.now) checked)) }
     ensures asked { IfOk result (λ d. status_of_due d ≢ Status.Usage) }
 {
-    let output = make_output(alloc, asked, checked)?;
-    if is_long(&output) {
+    let due = give(alloc, asked, words, checked)?;
+    if is_long_due(&due) {
         return Ok(Due::Line(Line::Limit(Limit::Output)));
     }
-    Ok(Due::Output(output))
+    Ok(due)
 }
 
 /// What is due for a command and a tree.
-fn tree_due(alloc: Global, asked: Asked, tree: &Tree) -> Result<Due, AllocError>
-    ensures due { IfOk result (λ d. HasRisingOffsets tree.now → SaysSuch (IsDueForTree asked tree.now) d) }
+fn tree_due(
+    alloc: Global,
+    asked: Asked,
+    words: &[String],
+    tree: &Tree,
+) -> Result<Due, AllocError>
+    ensures due { IfOk result (λ d. HasRisingOffsets tree.now → SaysSuch (IsDueForTree asked (map string_bytes words.now) tree.now) d) }
     ensures asked { IfOk result (λ d. status_of_due d ≢ Status.Usage) }
 {
     match find_verdict(alloc, tree)? {
-        Verdict::Accepted(checked) => net_due(alloc, asked, checked),
+        Verdict::Accepted(checked) => net_due(alloc, asked, words, checked),
         Verdict::Refused(refusal) => Ok(Due::Line(Line::Refusal(refusal))),
     }
 }
 
 /// What is due for a command and an input that was read.
-fn scanned_due(alloc: Global, asked: Asked, scanned: &Scanned) -> Result<Due, AllocError>
-    ensures due { IfOk result (λ d. (bytes : List ℕ) → IsScanned bytes scanned.now → SaysSuch (IsDueFor asked bytes) d) }
+fn scanned_due(
+    alloc: Global,
+    asked: Asked,
+    words: &[String],
+    scanned: &Scanned,
+) -> Result<Due, AllocError>
+    ensures due { IfOk result (λ d. (bytes : List ℕ) → IsScanned bytes scanned.now → SaysSuch (IsDueFor asked (map string_bytes words.now) bytes) d) }
     ensures whole { IfOk result (λ d. status_of_due d ≡ Status.Done → IsReadToEnd scanned.now) }
     ensures asked { IfOk result (λ d. status_of_due d ≢ Status.Usage) }
 {
     match scanned {
-        Scanned::Document(tree) => tree_due(alloc, asked, tree),
+        Scanned::Document(tree) => tree_due(alloc, asked, words, tree),
         Scanned::Broken(at) => Ok(Due::Line(Line::Refusal(Refusal::Broken(*at)))),
         Scanned::TooLong => Ok(Due::Line(Line::Limit(Limit::Input))),
     }
 }
 
 /// What is due for a command and an input that was read, or that memory was wanted.
-fn due_or_stop(alloc: Global, asked: Asked, scanned: &Scanned) -> Result<Due, Stop>
-    ensures due { IfOk result (λ d. (bytes : List ℕ) → IsScanned bytes scanned.now → SaysSuch (IsDueFor asked bytes) d) }
+fn due_or_stop(
+    alloc: Global,
+    asked: Asked,
+    words: &[String],
+    scanned: &Scanned,
+) -> Result<Due, Stop>
+    ensures due { IfOk result (λ d. (bytes : List ℕ) → IsScanned bytes scanned.now → SaysSuch (IsDueFor asked (map string_bytes words.now) bytes) d) }
     ensures whole { IfOk result (λ d. status_of_due d ≡ Status.Done → IsReadToEnd scanned.now) }
     ensures asked { IfOk result (λ d. status_of_due d ≢ Status.Usage) }
     ensures no_fault { result ≢ Err Stop.Fault }
 {
-    match scanned_due(alloc, asked, scanned) {
+    match scanned_due(alloc, asked, words, scanned) {
         Ok(due) => Ok(due),
         Err(_) => Err(Stop::Memory),
     }
@@ -100,5 +146,5 @@ pub(crate) fn decide<S: Source>(
         return Ok(Due::Line(Line::Usage));
     };
     let scanned = scan_all(alloc, source)?;
-    due_or_stop(alloc, asked, &scanned)
+    due_or_stop(alloc, asked, words, &scanned)
 }

@@ -5,6 +5,8 @@ mod due;
 mod input;
 pub mod laws;
 mod lines;
+mod listing;
+mod mode_list;
 mod outputs;
 mod status;
 mod top;

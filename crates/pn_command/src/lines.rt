@@ -6,14 +6,15 @@ ghost use Rattle.pn_outside.specs.Cause.{CountsFault, HasCause};
 ghost use Rattle.pn_outside.specs.Taking.{Puts};
 ghost use Rattle.pn_outside.specs.declared.limits.TheConstants.{BYTES};
 ghost use Rattle.pn_report.specs.Lines.{count_text};
-ghost use Rattle.pn_command.specs.Lines.{IsLine, limit_line, line_text, refusal_line, status_of};
+ghost use Rattle.pn_command.specs.Lines.{IsLine, limit_line, line_text, named_line, refusal_line, status_of};
 
 use crate::Status;
 use pn_faults::Fault;
-use pn_lines::put_count;
+use pn_lines::{put_count, put_escaped};
 use pn_outside::limits::BYTES;
 use pn_outside::{Failed, Sink, put_text};
 use pn_report::put_fault;
+use pn_text::Text;
 
 const USAGE: &str =
     "pnml: usage: check, flatten, step MODE (one or more), modes T, unfold, trial N\n";
@@ -25,6 +26,8 @@ pub(crate) enum Limit {
     Input,
     /// The output would be too long.
     Output,
+    /// A transition has so many assignments of values to its variables.
+    Assignments(u128),
 }
 
 /// Why the input is refused.
@@ -34,6 +37,10 @@ pub(crate) enum Refusal {
     Broken(u64),
     /// It is a document with a fault.
     Fault(Fault),
+    /// No transition of its net has this id.
+    UnknownTransition(Text),
+    /// The variable of this id has an infinite sort.
+    InfiniteSort(Text),
 }
 
 /// A line on the standard error.
@@ -78,7 +85,18 @@ fn put_limit<K: Sink>(sink: &mut K, limit: &Limit) -> Result<(), Failed>
     match limit {
         Limit::Input => put_longer(sink, "pnml: limit: input longer than "),
         Limit::Output => put_longer(sink, "pnml: limit: output longer than "),
+        Limit::Assignments(count) => put_assignments(sink, *count),
     }
+}
+
+/// Puts the line for more assignments than are listed.
+fn put_assignments<K: Sink>(sink: &mut K, count: u128) -> Result<(), Failed>
+    ensures puts { Puts K.taken K.number result sink.old sink.new (count_text (codes "pnml: limit: ") count ++ codes " assignments\n") }
+    ensures cause { HasCause (K.faults sink.old) (K.faults sink.new) result }
+    ensures counted { CountsFault (K.faults sink.old) (K.faults sink.new) result }
+{
+    put_count(sink, "pnml: limit: ", count)?;
+    put_text(sink, " assignments\n")
 }
 
 /// Puts the line for an input that is no document, with its break.
@@ -100,7 +118,22 @@ fn put_refusal<K: Sink>(sink: &mut K, refusal: &Refusal) -> Result<(), Failed>
     match refusal {
         Refusal::Broken(at) => put_broken(sink, *at),
         Refusal::Fault(fault) => put_fault(fault, sink),
+        Refusal::UnknownTransition(id) => {
+            put_named(sink, "pnml: unknown transition: ", id.as_str())
+        }
+        Refusal::InfiniteSort(id) => put_named(sink, "pnml: infinite sort: ", id.as_str()),
     }
+}
+
+/// Puts a line that ends with an id.
+fn put_named<K: Sink>(sink: &mut K, label: &str, id: &str) -> Result<(), Failed>
+    ensures puts { Puts K.taken K.number result sink.old sink.new (named_line label.now id.now) }
+    ensures cause { HasCause (K.faults sink.old) (K.faults sink.new) result }
+    ensures counted { CountsFault (K.faults sink.old) (K.faults sink.new) result }
+{
+    put_text(sink, label)?;
+    put_escaped(sink, id)?;
+    put_text(sink, "\n")
 }
 
 /// Puts a line.

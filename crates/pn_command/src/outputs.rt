@@ -2,18 +2,16 @@
 
 ghost use Rattle.std.specs.Prelude.{◌≡◌, ◌↔◌, ℕ, List, IfOk, IsTrue, OnOk};
 ghost use Rattle.pn_checks.specs.Linked.{IsLinked};
-ghost use Rattle.pn_net.specs.Flattening.{IsFlattened, net_of_flat};
-ghost use Rattle.pn_objects.specs.declared.net.Net.{Net};
+ghost use Rattle.pn_net.specs.Flattening.{net_of_flat};
 ghost use Rattle.pn_outside.specs.Cause.{CountsFault, HasCause};
 ghost use Rattle.pn_outside.specs.Taking.{Puts};
 ghost use Rattle.pn_spelling.specs.WriteNets.{tree_of_net};
 ghost use Rattle.pn_sorts.specs.Standing.{IsFaultless};
 ghost use Rattle.pn_tree.specs.declared.element.Element.{Element};
-ghost use Rattle.pn_command.specs.Outputs.{GivesOutput, HasText, IsLong, IsSummed};
+ghost use Rattle.pn_command.specs.Outputs.{HasText, IsLong, IsSummed};
 
-use crate::words::Asked;
+use crate::mode_list::ModeList;
 use pn_checks::Checked;
-use pn_net::Typed;
 use pn_outside::limits::BYTES;
 use pn_outside::{Failed, Sink};
 use pn_pages::typed_net;
@@ -29,34 +27,21 @@ pub(crate) enum Output {
     Summary(Checked),
     /// A net, by its tree.
     Net(Tree),
+    /// Modes.
+    Modes(ModeList),
 }
 
 /// The element tree of a flat net.
-fn flat_tree(alloc: Global, typed: &Typed) -> Result<Tree, AllocError>
-    requires { (tree : Element) × IsLinked tree typed.now }
-    ensures { IfOk result (λ t. t ≡ tree_of_net (net_of_flat typed.now)) }
+pub(crate) fn flat_tree(alloc: Global, checked: &Checked) -> Result<Tree, AllocError>
+    requires { (tree : Element) × IsLinked tree checked.now }
+    ensures { IfOk result (λ t. t ≡ tree_of_net (net_of_flat checked.now)) }
 {
-    let net = typed_net(alloc, typed)?;
+    let net = typed_net(alloc, checked.typed())?;
     tree_of(alloc, &net)
 }
 
-/// What a command gives for a net, however long that is.
-pub(crate) fn make_output(
-    alloc: Global,
-    asked: Asked,
-    checked: Checked,
-) -> Result<Output, AllocError>
-    requires { (tree : Element) × IsLinked tree checked }
-    ensures { IfOk result (λ o. (n : Net) → IsFlattened n (net_of_flat checked) → GivesOutput asked n o) }
-{
-    match asked {
-        Asked::Check => Ok(summary(checked)),
-        Asked::Flatten => Ok(Output::Net(flat_tree(alloc, checked.typed())?)),
-    }
-}
-
 /// A net, to be summed up.
-fn summary(checked: Checked) -> Output
+pub(crate) fn summary(checked: Checked) -> Output
     ensures is { result ≡ Output.Summary checked }
     ensures summed { (text : List ℕ) × IsSummed checked text }
 {
@@ -69,8 +54,8 @@ pub(crate) fn is_long(output: &Output) -> bool
     ensures { IsTrue result ↔ IsLong output.now }
 {
     match output {
-        Output::Summary(_) => false,
         Output::Net(tree) => text_length(tree) > BYTES,
+        _ => false,
     }
 }
 
@@ -100,6 +85,7 @@ fn put_output<K: Sink>(sink: &mut K, output: &Output) -> Result<(), Failed>
     match output {
         Output::Summary(checked) => put_summed(sink, checked),
         Output::Net(tree) => put_tree(tree, sink),
+        Output::Modes(list) => list.put(sink),
     }
 }
 

@@ -1,5 +1,5 @@
-ghost use Rattle.std.specs.Prelude.{◌≡◌, ◌∷◌, [], map, string_bytes};
-ghost use Rattle.pn_command.specs.Words.{asked_of};
+ghost use Rattle.std.specs.Prelude.{◌≡◌, map, string_bytes};
+ghost use Rattle.pn_command.specs.Words.{argument_of, asked_alone, asked_of, asked_with_one};
 
 /// What the words of the command line ask for.
 #[derive(Clone, Copy, Debug, PartialEq, Eq)]
@@ -8,6 +8,8 @@ pub enum Asked {
     Check,
     /// The canonical text of a net.
     Flatten,
+    /// The modes of a transition that are enabled.
+    Modes,
 }
 
 /// What these words ask for, where they ask for something. A command that is not built yet is
@@ -17,13 +19,14 @@ pub fn asks(words: &[String]) -> Option<Asked>
 {
     match words {
         [word] => asked_by(word.as_str()),
+        [word, _] => asked_of_one(word.as_str()),
         _ => None,
     }
 }
 
 /// What this one word asks for.
 fn asked_by(word: &str) -> Option<Asked>
-    ensures { result ≡ asked_of (word.now ∷ []) }
+    ensures { result ≡ asked_alone word.now }
 {
     if word == "check" {
         Some(Asked::Check)
@@ -31,5 +34,26 @@ fn asked_by(word: &str) -> Option<Asked>
         Some(Asked::Flatten)
     } else {
         None
+    }
+}
+
+/// What this word asks for with one word behind it.
+fn asked_of_one(word: &str) -> Option<Asked>
+    ensures { result ≡ asked_with_one word.now }
+{
+    if word == "modes" {
+        Some(Asked::Modes)
+    } else {
+        None
+    }
+}
+
+/// The word behind the command; empty where there is none.
+pub(crate) fn argument(words: &[String]) -> &str
+    ensures { result.now ≡ argument_of (map string_bytes words.now) }
+{
+    match words {
+        [_, word, ..] => word.as_str(),
+        _ => "",
     }
 }

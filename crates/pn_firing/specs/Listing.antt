@@ -45,3 +45,10 @@ IsUnlisted f id (faults.Memory e) = Unit {0}
 IsUnlisted f id faults.UnknownTransition = transition_named f id ≡ None
 IsUnlisted f id (faults.InfiniteSort x) = (t : ℕ) × (transition_named f id ≡ Some t) × IsInfiniteIn f t x
 IsUnlisted f id (faults.TooManyAssignments n) = (t : ℕ) × (transition_named f id ≡ Some t) × HasManyAssignments f t n
+
+-- a fault that tells something
+abbrev pub IsTold : ListFault → Type 0
+IsTold (faults.Memory e) = ⊥
+IsTold faults.UnknownTransition = Unit {0}
+IsTold (faults.InfiniteSort id) = Unit {0}
+IsTold (faults.TooManyAssignments n) = Unit {0}

@@ -2,6 +2,7 @@
 //! transition with an id are enabled at the initial marking, and their lines.
 #![tactic(auto)]
 
+pub mod laws;
 mod lines;
 mod listing;
 
