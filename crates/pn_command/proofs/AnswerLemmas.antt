@@ -1,5 +1,5 @@
 -- One answer is due, and no other.
-use Rattle.std.proofs.Common.{◌≡◌, ◌≤◌, ℕ, List, Option, None, Some, MatchOption, IfSome, refl, sym, ap, ◌∙◌, subst, arith, ◌++◌, append-nil}
+use Rattle.std.proofs.Common.{◌≡◌, ℕ, List, Option, None, Some, MatchOption, IfSome, refl, sym, ap, ◌∙◌, subst, arith, ◌++◌, append-nil}
 use Rattle.std.specs.Io.KnownBytes.{Consumes, IsAtEnd}
 use Rattle.pn_command.specs.declared.words.Asked.{Asked}
 use Rattle.pn_command.specs.declared.due.Due.{Due}
@@ -10,20 +10,30 @@ use Rattle.pn_faults.specs.declared.fault.Fault.{Fault}
 use Rattle.pn_markup.specs.Offsets.{HasRisingOffsets}
 use Rattle.pn_markup.proofs.OrderLemmas.{document_rises}
 use Rattle.pn_scan.proofs.ReachLemmas.{one_tree}
-use Rattle.pn_spelling.specs.ReadNets.{net_of}
-use Rattle.pn_command.specs.Answer.{Answer, EachAnswer, ForAnswer, IsDueFor, input_too_long, broken, for_tree, IsDueForNet, output_too_long, given, IsDueForTree, faulty, for_net, IsTheDue, Says, SaysSuch, limit_answer, output_answer, refusal_answer, status_of_due, usage_answer, usage_due}
-use Rattle.pn_command.specs.Outputs.{GivesOutput, HasText, IsLong, IsOver}
+use Rattle.pn_firing.specs.declared.listing.ListFault.{ListFault}
+use Rattle.pn_firing.specs.declared.listing.ListFault.TheVariants as unlisted_for
+use Rattle.pn_flat_laws.proofs.OneFlatLemmas.{one_flat}
+use Rattle.pn_net.specs.Flattening.{net_of_flat}
+use Rattle.pn_net.specs.declared.flat.Flat.{Flat}
+use Rattle.pn_spelling.specs.WriteNets.{tree_of_net}
+use Rattle.pn_tree.specs.Canonical.{canonical_text}
+use Rattle.pn_command.specs.declared.outputs.Output.TheVariants as outputs
+use Rattle.pn_sorts.specs.Standing.{IsFaultless}
+use Rattle.pn_sorts.proofs.SettleLemmas.{same_some}
+use Rattle.pn_command.specs.Answer.{Answer, EachAnswer, ForAnswer, IsDueFor, input_too_long, broken, for_tree, IsDueForNet, stopped, output_too_long, given, IsDueForTree, faulty, for_net, IsModesDue, IsTextDue, IsTheDue, Says, SaysSuch, line_answer, output_answer, refusal_answer, status_of_due, usage_answer, usage_due}
+use Rattle.pn_command.specs.Lines.{status_of}
+use Rattle.pn_command.specs.Outputs.{HasText, IsOver, IsOwnLine, IsSummed, IsUnlistedLine, line_of_unlisted}
 use Rattle.pn_checks.specs.Linked.{IsLeastInTree}
 use Rattle.pn_checks.specs.Verdicts.{IsAccepted}
 use Rattle.pn_command.specs.Verdict.{IsRefusal}
-use Rattle.pn_command.specs.declared.outputs.Output.{Output}
-use Rattle.pn_command.specs.declared.lines.Limit.TheVariants as limits
 use Rattle.pn_command.specs.declared.lines.Refusal.{Refusal}
-use Rattle.pn_objects.specs.declared.net.Net.{Net}
 use Rattle.pn_command.proofs.BreakLemmas.{one_break}
-use Rattle.pn_command.proofs.OutputLemmas.{one_output}
+use Rattle.pn_command.proofs.OutputLemmas.{declared_sound, line_or_output, one_line, one_output}
 use Rattle.pn_checks.proofs.OnceLemmas.{least_fault_is_one}
-use Rattle.pn_command.specs.Words.{asked_of}
+use Rattle.pn_command.specs.Words.{argument_of, asked_of}
+use Rattle.pn_command.specs.declared.lines.Line.{Line}
+use Rattle.pn_command.specs.declared.status.Status.TheVariants as status
+use Rattle.pn_command.specs.declared.words.Asked.TheVariants.{Check, Flatten, Modes}
 
 -- a document is accepted, or refused for one fault
 accepted_and_told : (tree : Element) (f : Fault) → IsAccepted tree → IsLeastInTree tree f → ⊥
@@ -103,13 +113,18 @@ all_given (Some xs) (Some ys) bytes P taken end p = subst P (sym (taken ∙ ap (
 
 -- ---- what is said of a net and of a tree
 
-pub said_too_long : (asked : Asked) (words : List (List ℕ)) (f : Flat) (d : Due) → IsGiven asked words f d → IsLongDue d → (x : Answer) × (x ≡ limit_answer limits.Output) × IsDueForNet asked words f x
-said_too_long asked words f (due.Line l) gives long = absurd long
-said_too_long asked words f (due.Output o) gives long = (limit_answer limits.Output, refl, output_too_long gives.text gives.is_output (gives.over long) refl)
+pub summary_said : (words : List (List ℕ)) (f : Flat) → (text : List ℕ) × IsSummed f text → SaysSuch (IsDueForNet Check words f) (due.Output (outputs.Summary f))
+summary_said words f (text, is) = (output_answer text, (text, is, refl), given text is (λ none. none) refl)
 
-pub said_given : (asked : Asked) (words : List (List ℕ)) (f : Flat) (d : Due) → IsGiven asked words f d → (IsLongDue d → ⊥) → SaysSuch (IsDueForNet asked words f) d
-said_given asked words f (due.Line l) is short = (line_answer l, refl, stopped l is refl)
-said_given asked words f (due.Output o) gives short = (output_answer gives.text, (gives.text, gives.has_text, refl), given gives.text gives.is_output (λ over. short (gives.long over)) refl)
+pub flat_said : (words : List (List ℕ)) (f : Flat) (d : Due) → IsTextDue (tree_of_net (net_of_flat f)) d → SaysSuch (IsDueForNet Flatten words f) d
+flat_said words f (due.Line l) (is, longer) = (line_answer l, refl, output_too_long _ refl longer (ap line_answer is))
+flat_said words f (due.Output o) (is, short) =
+    let text = canonical_text (tree_of_net (net_of_flat f)) in
+    (output_answer text, (text, subst (λ x. HasText x text) (sym is) refl, refl), given text refl short refl)
+
+pub modes_said : (words : List (List ℕ)) (f : Flat) (d : Due) → IsModesDue f (argument_of words) d → SaysSuch (IsDueForNet Modes words f) d
+modes_said words f (due.Line l) is = (line_answer l, refl, stopped l is refl)
+modes_said words f (due.Output o) (text, has, is) = (output_answer text, (text, has, refl), given text is (λ none. none) refl)
 
 pub refused_due : (asked : Asked) (words : List (List ℕ)) (tree : Element) (r : Refusal) → IsRefusal tree r → HasRisingOffsets tree → IsDueForTree asked words tree (refusal_answer r)
 refused_due asked words tree (refusals.Broken k) is rises = absurd is
@@ -117,15 +132,26 @@ refused_due asked words tree (refusals.Fault f) is rises = faulty f (is rises) r
 refused_due asked words tree (refusals.UnknownTransition id) is rises = absurd is
 refused_due asked words tree (refusals.InfiniteSort id) is rises = absurd is
 
--- a line of a command's own is not that of a usage
-pub own_status : (asked : Asked) (words : List (List ℕ)) (f : Flat) (d : Due) → IsGiven asked words f d → status_of_due d ≡ status.Usage → ⊥
-own_status asked words f (due.Output o) gives is = absurd cc
-own_status Check words f (due.Line l) gives is = absurd gives
-own_status Flatten words f (due.Line l) gives is = absurd gives
-own_status Modes words f (due.Line l) (fault, unlisted, told) is = by fault told
+-- what is due for a net is no usage
+
+unlisted_status : (f : Flat) (id : List ℕ) (l : Line) → IsUnlistedLine f id l → status_of l ≡ status.Usage → ⊥
+unlisted_status f id l (fault, unlisted, told) usage = by fault told
   where
-    by : (x : ListFault) → line_of_unlisted (argument_of words) x ≡ Some l → ⊥
+    by : (x : ListFault) → line_of_unlisted id x ≡ Some l → ⊥
     by (unlisted_for.Memory e) line = absurd cc
-    by unlisted_for.UnknownTransition line = let same = same_some _ l _ refl line in never_usage l (subst IsOfNet same tt) is
-    by (unlisted_for.InfiniteSort x) line = let same = same_some _ l _ refl line in never_usage l (subst IsOfNet same tt) is
-    by (unlisted_for.TooManyAssignments n) line = let same = same_some _ l _ refl line in never_usage l (subst IsOfNet same tt) is
+    by unlisted_for.UnknownTransition line = let clash : status.Refused ≡ status.Usage = ap status_of (same_some _ l line) ∙ usage in absurd cc
+    by (unlisted_for.InfiniteSort x) line = let clash : status.Refused ≡ status.Usage = ap status_of (same_some _ l line) ∙ usage in absurd cc
+    by (unlisted_for.TooManyAssignments n) line = let clash : status.Limit ≡ status.Usage = ap status_of (same_some _ l line) ∙ usage in absurd cc
+
+own_status : (asked : Asked) (words : List (List ℕ)) (f : Flat) (l : Line) → IsOwnLine asked words f l → status_of l ≡ status.Usage → ⊥
+own_status Check words f l is usage = is
+own_status Flatten words f l is usage = is
+own_status Modes words f l is usage = unlisted_status f (argument_of words) l is usage
+
+net_status : (asked : Asked) (words : List (List ℕ)) (f : Flat) (a : Answer) → IsDueForNet asked words f a → a.status ≡ status.Usage → ⊥
+net_status asked words f a (stopped l is g) usage = own_status asked words f l is (sym (ap (λ x. x.status) g) ∙ usage)
+net_status asked words f a (output_too_long text is over g) usage = let clash : status.Limit ≡ status.Usage = sym (ap (λ x. x.status) g) ∙ usage in cc
+net_status asked words f a (given text is short g) usage = let clash : status.Done ≡ status.Usage = sym (ap (λ x. x.status) g) ∙ usage in cc
+
+pub said_status_of_net : (asked : Asked) (words : List (List ℕ)) (f : Flat) (d : Due) → SaysSuch (IsDueForNet asked words f) d → status_of_due d ≡ status.Usage → ⊥
+said_status_of_net asked words f d said usage = net_status asked words f said.0 said.2 (said_status d said.0 said.1 ∙ usage)

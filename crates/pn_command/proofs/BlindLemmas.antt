@@ -8,7 +8,7 @@ use Rattle.pn_markup.proofs.OffsetLemmas.{kid_without-element, without_offsets_i
 use Rattle.pn_shape.proofs.LevelLemmas.{kid_is}
 use Rattle.pn_shape.specs.Faults as faults
 use Rattle.pn_shape.specs.Faults.{layer_text}
-use Rattle.pn_spelling.specs.Parts.{attribute_of, child_elements, child_named, children_named, element_in_layer, elements_among, first_child, has_name, number_at, other_child, own_text}
+use Rattle.pn_spelling.specs.Parts.{attribute_of, child_elements, child_named, children_named, element_in_layer, elements_among, first_child, has_name, own_text}
 use Rattle.pn_tree.proofs.ElementLemmas.{out_element, out_text}
 use Rattle.pn_tree.specs.declared.element.Child.{Child}
 use Rattle.pn_tree.specs.declared.element.Child.TheFolds.{fold-roll-Child}

@@ -1,18 +1,14 @@
 -- What an element without its offsets spells is what it spells, without offsets.
-use Rattle.std.proofs.Common.{◌≡◌, ℕ, zero, suc, ◌+◌, ◌≤◌, Bool, true, false, cond, ℤ, pos, List, [], ◌∷◌, map, codes, Option, Some, None, refl, sym, ap, ◌∙◌, arith}
-use Rattle.std.specs.Prelude.{not}
-use Rattle.std.specs.List.{filter, find, slice_get}
+use Rattle.std.proofs.Common.{◌≡◌, ℕ, zero, suc, ◌+◌, false, cond, ℤ, pos, List, [], ◌∷◌, map, codes, refl, sym, ap, ◌∙◌, arith}
 use Rattle.std.specs.Option.{option_map, unwrap_or}
 use Rattle.std.specs.Str.{bytes_eq}
-use Rattle.std.proofs.lemmas.Option.{slice_get-map}
 use Rattle.pn_markup.proofs.OffsetLemmas.{without_offsets_is}
 use Rattle.pn_markup.specs.Offsets.{without_offsets}
-use Rattle.pn_operators.specs.declared.op.Op.{Op}
 use Rattle.pn_round_trip.proofs.OffsetLemmas.{SortLayer, TermLayer, bare_sort_layer, bare_sort_node, bare_sort_rolled, bare_term_layer, bare_term_node, bare_term_rolled}
-use Rattle.pn_spelling.proofs.ReadLemmas.{sort_levels, sort_levels_next, sort_of_parts, term_levels, term_levels_next, term_of_parts}
-use Rattle.pn_spelling.specs.Parts.{attribute_of, child_elements, child_named, children_named, end_in, first_child, has_name, number_at, other_child, start_in}
+use Rattle.pn_spelling.proofs.ReadLemmas.{sort_levels, sort_of_parts, term_levels, term_of_parts}
+use Rattle.pn_spelling.specs.Parts.{attribute_of, child_elements, end_in, first_child, has_name, number_at, start_in}
 use Rattle.pn_spelling.specs.ReadSorts.{first_sort, no_sort, sort_in, sort_node, sort_read, sort_within}
-use Rattle.pn_spelling.specs.ReadTerms.{basis_in, basis_of, first_term, no_term, number_sort_in, number_sort_of, operator_named, term_in, term_inside, term_node, term_read, term_within}
+use Rattle.pn_spelling.specs.ReadTerms.{basis_in, basis_of, first_term, no_term, number_sort_in, number_sort_of, operator_named, term_inside, term_node, term_read, term_within}
 use Rattle.pn_syntax.specs.Offsets as sorts
 use Rattle.pn_syntax.specs.Offsets.{sort_without_offsets}
 use Rattle.pn_syntax.specs.TermOffsets as terms
@@ -35,7 +31,7 @@ use Rattle.pn_syntax.specs.declared.term.TermNode.TheViews.{roll-TermNode}
 use Rattle.pn_syntax.specs.declared.term.TermNode.TheFolds.{fold_out-Term}
 use Rattle.pn_tree.specs.Depth.{depth_of}
 use Rattle.pn_tree.specs.declared.element.Element.{Element}
-use Rattle.pn_command.proofs.BlindLemmas.{attribute_bare, children_bare, cond_each, first_child_bare, map_each, name_bare, option_each, or_else_each}
+use Rattle.pn_command.proofs.BlindLemmas.{children_bare, cond_each, first_child_bare, map_each, name_bare, or_else_each}
 
 -- ---- sorts
 

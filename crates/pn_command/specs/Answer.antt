@@ -1,8 +1,9 @@
 -- The answer that is due for the words and the bytes of the input.
-use Rattle.std.specs.Prelude.{◌≡◌, ◌≤◌, ℕ, List, [], length, Option, MatchOption}
+use Rattle.std.specs.Prelude.{◌≡◌, ◌<◌, ◌≤◌, ℕ, List, [], length, Option, MatchOption}
 use Rattle.pn_outside.specs.declared.limits.TheConstants.{BYTES}
 use Rattle.pn_outside.specs.Cause.{Rose}
 use Rattle.pn_outside.specs.Taking.{Takes, TakesFront}
+use Rattle.pn_tree.specs.Canonical.{canonical_text}
 use Rattle.pn_tree.specs.declared.element.Element.{Element}
 use Rattle.pn_markup.specs.Document.{IsBreak, IsDocument}
 use Rattle.pn_faults.specs.declared.fault.Fault.{Fault}
@@ -17,11 +18,12 @@ use Rattle.pn_command.specs.declared.lines.Refusal.{Refusal}
 use Rattle.pn_command.specs.declared.lines.Refusal.TheVariants as refusals
 use Rattle.pn_command.specs.declared.lines.Line.{Line}
 use Rattle.pn_command.specs.declared.lines.Line.TheVariants as lines
+use Rattle.pn_command.specs.declared.outputs.Output.TheVariants as outputs
 use Rattle.pn_command.specs.declared.due.Due.{Due}
 use Rattle.pn_command.specs.declared.due.Due.TheVariants as due
 use Rattle.pn_command.specs.Words.{asked_of}
 use Rattle.pn_command.specs.Lines.{line_text, status_of}
-use Rattle.pn_command.specs.Outputs.{GivesOutput, HasText, IsLong, IsOutput, IsModesText, IsOver, IsOwnLine, IsUnlistedLine}
+use Rattle.pn_command.specs.Outputs.{HasText, IsModesText, IsOutput, IsOver, IsOwnLine, IsUnlistedLine}
 use Rattle.pn_checks.specs.Linked.{IsLeastInTree}
 use Rattle.pn_command.specs.Verdict.{IsAcceptedAs}
 
@@ -109,20 +111,15 @@ status_of_due (due.Output o) = status.Done
 abbrev pub usage_due : Due
 usage_due = due.Line lines.Usage
 
--- what a command gives for a flat net, however long that is: a line of its own, or its output
-abbrev pub IsGiven : Asked → List (List ℕ) → Flat → Due → Type 0
-IsGiven asked words f (due.Line l) = IsOwnLine asked words f l
-IsGiven asked words f (due.Output o) = GivesOutput asked words f o
+-- the text of an element tree, or the line for one that is longer than it may be
+abbrev pub IsTextDue : Element → Due → Type 0
+IsTextDue e (due.Line l) = (l ≡ lines.Limit limits.Output) × (BYTES < length (canonical_text e))
+IsTextDue e (due.Output o) = (o ≡ outputs.Net e) × (BYTES < length (canonical_text e) → ⊥)
 
--- what `modes` gives for a flat net and an id: the line that tells why, or modes of it whose texts are listed
-abbrev pub IsModesGiven : Flat → List ℕ → Due → Type 0
-IsModesGiven f id (due.Line l) = IsUnlistedLine f id l
-IsModesGiven f id (due.Output o) = (text : List ℕ) × HasText o text × IsModesText f id text × (IsLong o → ⊥)
-
--- it is an output that is longer than it may be
-abbrev pub IsLongDue : Due → Type 0
-IsLongDue (due.Line l) = ⊥
-IsLongDue (due.Output o) = IsLong o
+-- what `modes` answers for a flat net and an id: the line that tells why they are not listed, or their texts
+abbrev pub IsModesDue : Flat → List ℕ → Due → Type 0
+IsModesDue f id (due.Line l) = IsUnlistedLine f id l
+IsModesDue f id (due.Output o) = (text : List ℕ) × HasText o text × IsModesText f id text
 
 -- an answer that is written for what was decided is such
 abbrev pub SaysSuch : (Answer → Type 0) → Due → Type 0

@@ -73,17 +73,3 @@ abbrev pub HasText : Output → List ℕ → Type 0
 HasText (outputs.Summary f) text = IsSummed f text
 HasText (outputs.Net e) text = text ≡ canonical_text e
 HasText (outputs.Modes l) text = HasModeLines l.flat l.modes text
-
--- an output is the text of a net that is longer than it may be
-abbrev pub IsLong : Output → Type 0
-IsLong (outputs.Summary f) = ⊥
-IsLong (outputs.Net e) = BYTES < length (canonical_text e)
-IsLong (outputs.Modes l) = ⊥
-
--- the output is what a command gives for a flat net
-pub record GivesOutput (asked : Asked) (words : List (List ℕ)) (f : Flat) (o : Output) : Type 0 where
-  pub text : List ℕ
-  pub has_text : HasText o text
-  pub is_output : IsOutput asked words f text
-  pub over : IsLong o → IsOver asked text
-  pub long : IsOver asked text → IsLong o

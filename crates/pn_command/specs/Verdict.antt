@@ -1,10 +1,6 @@
 -- What comes of a document, by its tree.
-use Rattle.std.specs.Prelude.{◌≡◌, ℕ}
 use Rattle.pn_checks.specs.Linked.{IsLeastInTree, IsLinked}
 use Rattle.pn_checks.specs.Verdicts.{IsAccepted}
-use Rattle.pn_faults.specs.declared.fault.Fault.{Fault}
-use Rattle.pn_faults.specs.declared.fault.Refusal.TheVariants as told
-use Rattle.pn_faults.specs.declared.fault.Refusal as faults
 use Rattle.pn_markup.specs.Offsets.{HasRisingOffsets}
 use Rattle.pn_net.specs.declared.flat.Flat.{Flat}
 use Rattle.pn_tree.specs.declared.element.Element.{Element}
@@ -22,6 +18,8 @@ pub record IsAcceptedAs (tree : Element) (f : Flat) : Type 0 where
 abbrev pub IsRefusal : Element → Refusal → Type 0
 IsRefusal tree (refusals.Broken k) = ⊥
 IsRefusal tree (refusals.Fault f) = HasRisingOffsets tree → IsLeastInTree tree f
+IsRefusal tree (refusals.UnknownTransition id) = ⊥
+IsRefusal tree (refusals.InfiniteSort id) = ⊥
 
 -- what comes of a document of this tree: its flat net, or why it is refused
 abbrev pub IsVerdict : Element → Verdict → Type 0

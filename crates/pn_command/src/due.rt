@@ -1,12 +1,14 @@
 //! The answer that is due.
 
-ghost use Rattle.std.specs.Prelude.{◌≡◌, ◌≢◌, ◌≤◌, ◌⊎◌, ◌↔◌, ℕ, List, IfOk, IfSome, IsTrue, Err, Ok, None, map, string_bytes};
+ghost use Rattle.std.specs.Prelude.{◌≡◌, ◌≢◌, ◌≤◌, ◌⊎◌, ℕ, List, IfOk, IfSome, Err, Ok, None, map, string_bytes};
 ghost use Rattle.std.specs.Io.KnownBytes.{IsAtEnd};
 ghost use Rattle.pn_checks.specs.Linked.{IsLinked};
 ghost use Rattle.pn_markup.specs.Offsets.{HasRisingOffsets};
+ghost use Rattle.pn_net.specs.Flattening.{net_of_flat};
+ghost use Rattle.pn_spelling.specs.WriteNets.{tree_of_net};
 ghost use Rattle.pn_tree.specs.declared.element.Element.{Element};
 ghost use Rattle.pn_outside.specs.Cause.{Rose};
-ghost use Rattle.pn_command.specs.Answer.{IsDueFor, IsDueForNet, IsDueForTree, IsGiven, IsLongDue, IsTheDue, SaysSuch, status_of_due, usage_due};
+ghost use Rattle.pn_command.specs.Answer.{IsDueFor, IsDueForNet, IsDueForTree, IsTextDue, IsTheDue, SaysSuch, status_of_due, usage_due};
 ghost use Rattle.pn_command.specs.Reading.{IsReadToEnd, IsScanned, ReadsNoFurther, TakesBegun};
 ghost use Rattle.pn_command.specs.Words.{asked_of};
 
@@ -14,12 +16,13 @@ use crate::Status;
 use crate::input::{Scanned, Stop, scan_all};
 use crate::lines::{Limit, Line, Refusal};
 use crate::listing::list_modes;
-use crate::outputs::{Output, flat_tree, is_long, summary};
+use crate::outputs::{Output, discard_net, flat_tree, summary};
 use crate::verdict::{Verdict, find_verdict};
 use crate::words::{Asked, argument, asks};
 use pn_checks::Checked;
 use pn_outside::Source;
-use pn_tree::Tree;
+use pn_outside::limits::BYTES;
+use pn_tree::{Tree, text_length};
 use std::alloc::{AllocError, Global};
 
 /// The answer that is due, before it is written: a line on the standard error, or an output.
@@ -29,31 +32,24 @@ pub(crate) enum Due {
     Output(Output),
 }
 
-/// What a command gives for a net, however long that is.
-fn give(
-    alloc: Global,
-    asked: Asked,
-    words: &[String],
-    checked: Checked,
-) -> Result<Due, AllocError>
-    requires linked { (tree : Element) × IsLinked tree checked }
-    ensures { IfOk result (IsGiven asked (map string_bytes words.now) checked) }
+/// The text of a net, or the line for one that is longer than it may be.
+fn text_due(tree: Tree) -> Due
+    ensures { IsTextDue tree result }
 {
-    match asked {
-        Asked::Check => Ok(Due::Output(summary(checked))),
-        Asked::Flatten => Ok(Due::Output(Output::Net(flat_tree(alloc, &checked)?))),
-        Asked::Modes => list_modes(alloc, checked, argument(words)),
+    if text_length(&tree) > BYTES {
+        return Due::Line(Line::Limit(Limit::Output));
     }
+    Due::Output(Output::Net(tree))
 }
 
-/// Whether it is an output that is longer than it may be.
-fn is_long_due(due: &Due) -> bool
-    ensures { IsTrue result ↔ IsLongDue due.now }
+/// What `flatten` answers for a net.
+fn flat_due(alloc: Global, checked: Checked) -> Result<Due, AllocError>
+    requires { (tree : Element) × IsLinked tree checked }
+    ensures { IfOk result (IsTextDue (tree_of_net (net_of_flat checked))) }
 {
-    match due {
-        Due::Line(_) => false,
-        Due::Output(output) => is_long(output),
-    }
+    let tree = flat_tree(alloc, &checked);
+    discard_net(checked);
+    Ok(text_due(tree?))
 }
 
 /// What a command answers for a net.
@@ -64,14 +60,13 @@ fn net_due(
     checked: Checked,
 ) -> Result<Due, AllocError>
     requires linked { (tree : Element) × IsLinked tree checked }
-    ensures due { IfOk result (SaysSuch (IsDueForNet asked (map string_bytes words.now) checked)) }
-    ensures asked { IfOk result (λ d. status_of_due d ≢ Status.Usage) }
+    ensures { IfOk result (SaysSuch (IsDueForNet asked (map string_bytes words.now) checked)) }
 {
-    let due = give(alloc, asked, words, checked)?;
-    if is_long_due(&due) {
-        return Ok(Due::Line(Line::Limit(Limit::Output)));
+    match asked {
+        Asked::Check => Ok(Due::Output(summary(checked))),
+        Asked::Flatten => flat_due(alloc, checked),
+        Asked::Modes => list_modes(alloc, checked, argument(words)),
     }
-    Ok(due)
 }
 
 /// What is due for a command and a tree.

@@ -1,6 +1,6 @@
 //! What the program writes to the standard output.
 
-ghost use Rattle.std.specs.Prelude.{◌≡◌, ◌↔◌, ℕ, List, IfOk, IsTrue, OnOk};
+ghost use Rattle.std.specs.Prelude.{◌≡◌, ℕ, List, IfOk, OnOk};
 ghost use Rattle.pn_checks.specs.Linked.{IsLinked};
 ghost use Rattle.pn_net.specs.Flattening.{net_of_flat};
 ghost use Rattle.pn_outside.specs.Cause.{CountsFault, HasCause};
@@ -8,15 +8,14 @@ ghost use Rattle.pn_outside.specs.Taking.{Puts};
 ghost use Rattle.pn_spelling.specs.WriteNets.{tree_of_net};
 ghost use Rattle.pn_sorts.specs.Standing.{IsFaultless};
 ghost use Rattle.pn_tree.specs.declared.element.Element.{Element};
-ghost use Rattle.pn_command.specs.Outputs.{HasText, IsLong, IsSummed};
+ghost use Rattle.pn_command.specs.Outputs.{HasText, IsSummed};
 
 use crate::mode_list::ModeList;
 use pn_checks::Checked;
-use pn_outside::limits::BYTES;
 use pn_outside::{Failed, Sink};
 use pn_pages::typed_net;
 use pn_report::put_summary;
-use pn_tree::{Tree, put_tree, text_length};
+use pn_tree::{Tree, put_tree};
 use pn_writer::tree_of;
 use std::alloc::{AllocError, Global};
 
@@ -40,6 +39,9 @@ pub(crate) fn flat_tree(alloc: Global, checked: &Checked) -> Result<Tree, AllocE
     tree_of(alloc, &net)
 }
 
+/// Gives a net's memory back: one place for it, since each costs the proof some time.
+pub(crate) fn discard_net(_checked: Checked) {}
+
 /// A net, to be summed up.
 pub(crate) fn summary(checked: Checked) -> Output
     ensures is { result ≡ Output.Summary checked }
@@ -47,16 +49,6 @@ pub(crate) fn summary(checked: Checked) -> Output
 {
     let _marking = checked.initial();
     Output::Summary(checked)
-}
-
-/// Whether an output is longer than it may be.
-pub(crate) fn is_long(output: &Output) -> bool
-    ensures { IsTrue result ↔ IsLong output.now }
-{
-    match output {
-        Output::Net(tree) => text_length(tree) > BYTES,
-        _ => false,
-    }
 }
 
 /// The declarations of a checked net have no fault.

@@ -6,4 +6,6 @@ mod coloured;
 #[cfg(test)]
 mod links;
 #[cfg(test)]
+mod modes;
+#[cfg(test)]
 mod tests;

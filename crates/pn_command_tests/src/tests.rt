@@ -111,7 +111,7 @@ fn expect_case(rt: &impl Abort, alloc: Global, case: Case<'_>) -> Result<(), All
 }
 
 /// Asserts how the program ends on a document, given whole and byte by byte.
-fn expect(
+pub(crate) fn expect(
     rt: &impl Abort,
     alloc: Global,
     words: &[&str],
@@ -575,6 +575,8 @@ fn other_words_are_misused(rt: HostRuntime) -> Result<(), Fail> {
     expect_misused(&rt, alloc, &[])?;
     expect_misused(&rt, alloc, &["Check"])?;
     expect_misused(&rt, alloc, &["check", "check"])?;
+    expect_misused(&rt, alloc, &["modes"])?;
+    expect_misused(&rt, alloc, &["modes", "t", "t"])?;
     Ok(())
 }
 

@@ -1,9 +1,28 @@
-use Rattle.std.proofs.Common.{true≢false, sym, ◌∙◌}
-use Rattle.pn_command.proofs.AnswerLemmas.{said_given, said_too_long}
+use Rattle.std.proofs.Common.{map, string_bytes, sym, subst}
+use Rattle.std.proofs.lemmas.Result.{IfOk-weaker}
+use Rattle.pn_command.specs.Answer.{IsDueForNet, IsModesDue, SaysSuch}
+use Rattle.pn_command.specs.declared.due.Due.TheVariants as due
+use Rattle.pn_command.specs.declared.words.Asked.TheVariants.{Check}
+use Rattle.pn_command.proofs.AnswerLemmas.{flat_said, modes_said, summary_said}
 use Rattle.pn_command.proofs.due.net_due.Goals as goal
 
-pub returns-then-is_long-clause-due : goal.returns-then-is_long-clause-due
-returns-then-is_long-clause-due c = λ n flat. said_too_long c.args.asked n c.in_ok-output.output (c.in_ok-output.ensures n flat) (c.is_long.ensures.0 c.if-is_long.true)
+pub returns-in-Check : goal.returns-in-Check
+returns-in-Check c =
+    let words = map string_bytes c.args.words.now in
+    let f = c.args.checked in
+    subst (λ a. SaysSuch (IsDueForNet a words f) (due.Output c.summary.result)) (sym c.in-Check.is)
+    (subst (λ o. SaysSuch (IsDueForNet Check words f) (due.Output o)) (sym c.summary.ensures.is) (summary_said words f c.summary.ensures.summed))
 
-pub returns-clause-due : goal.returns-clause-due
-returns-clause-due c = λ n flat. said_given c.args.asked n c.in_ok-output.output (c.in_ok-output.ensures n flat) (λ long. true≢false (sym (c.is_long.ensures.1 long) ∙ c.if-is_long.false))
+pub returns-in-Flatten : goal.returns-in-Flatten
+returns-in-Flatten c =
+    let words = map string_bytes c.args.words.now in
+    let f = c.args.checked in
+    IfOk-weaker c.flat_due.result _ _ (λ d is. subst (λ a. SaysSuch (IsDueForNet a words f) d) (sym c.in-Flatten.is) (flat_said words f d is)) c.flat_due.ensures
+
+pub returns-in-Modes : goal.returns-in-Modes
+returns-in-Modes c =
+    let words = map string_bytes c.args.words.now in
+    let f = c.args.checked in
+    IfOk-weaker c.list_modes.result _ _ (λ d is.
+    subst (λ a. SaysSuch (IsDueForNet a words f) d) (sym c.in-Modes.is) (modes_said words f d (subst (λ id. IsModesDue f id d) c.argument.ensures is)))
+    c.list_modes.ensures

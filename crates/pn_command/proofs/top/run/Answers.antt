@@ -1,8 +1,8 @@
-use Rattle.std.proofs.Common.{map, string_bytes}
+use Rattle.std.proofs.Common.{inl, map, string_bytes}
 use Rattle.std.proofs.lemmas.Option.{IfSome_then}
-use Rattle.pn_command.specs.Answer.{Answer, Answers, Begins, EachAnswer, ForAnswer, IsTheDue, RoseWhereDue, SaysSuch}
+use Rattle.pn_command.specs.Answer.{Answer, Answers, Begins, EachAnswer, ForAnswer, IsTheDue, RoseWhereDue, SaysSuch, status_of_due}
 use Rattle.pn_command.proofs.AnswerLemmas.{each_said, said_status, the_said}
-use Rattle.pn_command.proofs.StatusLemmas.{never}
+use Rattle.pn_command.proofs.StatusLemmas.{answered, never, one_rose}
 use Rattle.pn_command.specs.declared.status.Status.TheVariants as status
 use Rattle.pn_command.proofs.top.run.Goals as goal
 
@@ -30,3 +30,16 @@ returns-in-Ok-clause-nothing_written g c same = absurd (never c.deliver.result s
 
 pub returns-in-Ok-clause-memory : goal.returns-in-Ok-clause-memory
 returns-in-Ok-clause-memory g c same = absurd (never c.deliver.result status.OutOfMemory c.in-Ok.due (λ no. no) (λ no. no) c.deliver.ensures.ends same)
+
+pub returns-in-Ok-clause-read_fault : goal.returns-in-Ok-clause-read_fault
+returns-in-Ok-clause-read_fault g c same = absurd (never c.deliver.result status.ReadFault c.in-Ok.due (λ no. no) (λ no. no) c.deliver.ensures.ends same)
+
+pub returns-in-Ok-clause-read_fault_begun : goal.returns-in-Ok-clause-read_fault_begun
+returns-in-Ok-clause-read_fault_begun g c same = absurd (never c.deliver.result status.ReadFault c.in-Ok.due (λ no. no) (λ no. no) c.deliver.ensures.ends same)
+
+pub returns-in-Ok-clause-write_fault_untold : goal.returns-in-Ok-clause-write_fault_untold
+returns-in-Ok-clause-write_fault_untold g c same = one_rose (status_of_due c.in-Ok.due) _ _ _ _ (c.deliver.ensures.write_fault same)
+
+pub returns-in-Ok-clause-complete : goal.returns-in-Ok-clause-complete
+returns-in-Ok-clause-complete g c = λ unread unsaid unwritten untold.
+    inl (answered c.deliver.result c.in-Ok.due _ _ _ _ c.deliver.ensures.ends c.deliver.ensures.write_fault unwritten untold)
