@@ -22,7 +22,7 @@ use Rattle.pn_sorts.specs.Standing.{IsFaultless}
 use Rattle.pn_sorts.proofs.SettleLemmas.{same_some}
 use Rattle.pn_command.specs.Answer.{Answer, EachAnswer, ForAnswer, IsDueFor, input_too_long, broken, for_tree, IsDueForNet, stopped, output_too_long, given, IsDueForTree, faulty, for_net, IsModesDue, IsTextDue, IsTheDue, Says, SaysSuch, line_answer, output_answer, refusal_answer, status_of_due, usage_answer, usage_due}
 use Rattle.pn_command.specs.Lines.{status_of}
-use Rattle.pn_command.specs.Outputs.{HasText, IsOver, IsOwnLine, IsSummed, IsUnlistedLine, line_of_unlisted}
+use Rattle.pn_command.specs.Outputs.{HasText, IsModesText, IsOver, IsOwnLine, IsSummed, IsUnlistedLine, line_of_unlisted}
 use Rattle.pn_checks.specs.Linked.{IsLeastInTree}
 use Rattle.pn_checks.specs.Verdicts.{IsAccepted}
 use Rattle.pn_command.specs.Verdict.{IsRefusal}
@@ -32,6 +32,7 @@ use Rattle.pn_command.proofs.OutputLemmas.{declared_sound, line_or_output, one_l
 use Rattle.pn_checks.proofs.OnceLemmas.{least_fault_is_one}
 use Rattle.pn_command.specs.Words.{argument_of, asked_of}
 use Rattle.pn_command.specs.declared.lines.Line.{Line}
+use Rattle.pn_command.specs.declared.lines.Line.TheVariants as lines
 use Rattle.pn_command.specs.declared.status.Status.TheVariants as status
 use Rattle.pn_command.specs.declared.words.Asked.TheVariants.{Check, Flatten, Modes}
 
@@ -125,6 +126,17 @@ flat_said words f (due.Output o) (is, short) =
 pub modes_said : (words : List (List ℕ)) (f : Flat) (d : Due) → IsModesDue f (argument_of words) d → SaysSuch (IsDueForNet Modes words f) d
 modes_said words f (due.Line l) is = (line_answer l, refl, stopped l is refl)
 modes_said words f (due.Output o) (text, has, is) = (output_answer text, (text, has, refl), given text is (λ none. none) refl)
+
+-- what `modes` writes where it is done is its list
+pub modes_listed : (words : List (List ℕ)) (f : Flat) (a : Answer) → IsDueForNet Modes words f a → a.status ≡ status.Done → IsModesText f (argument_of words) a.out
+modes_listed words f a (stopped l is g) ended = absurd (no_line l (sym (ap (λ x. x.status) g) ∙ ended))
+  where
+    no_line : (k : Line) → status_of k ≡ status.Done → ⊥
+    no_line lines.Usage is = absurd cc
+    no_line (lines.Limit limit) is = absurd cc
+    no_line (lines.Refusal refusal) is = absurd cc
+modes_listed words f a (output_too_long text is over g) ended = absurd over
+modes_listed words f a (given text is short g) ended = subst (IsModesText f (argument_of words)) (sym (ap (λ x. x.out) g)) is
 
 pub refused_due : (asked : Asked) (words : List (List ℕ)) (tree : Element) (r : Refusal) → IsRefusal tree r → HasRisingOffsets tree → IsDueForTree asked words tree (refusal_answer r)
 refused_due asked words tree (refusals.Broken k) is rises = absurd is

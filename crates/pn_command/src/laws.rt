@@ -1,7 +1,7 @@
 //! Laws of what the program answers. Each is a function with an empty body, and its clause is the
 //! law.
 
-ghost use Rattle.std.specs.Prelude.{◌↔◌, ℕ, List};
+ghost use Rattle.std.specs.Prelude.{◌≡◌, ◌↔◌, ℕ, List};
 ghost use Rattle.pn_checks.specs.Initial.{IsInitial};
 ghost use Rattle.pn_checks.specs.Linked.{IsLinked};
 ghost use Rattle.pn_checks.specs.Verdicts.{IsAccepted};
@@ -18,7 +18,12 @@ ghost use Rattle.pn_spelling.specs.WriteNets.{tree_of_net};
 ghost use Rattle.pn_tree.specs.Canonical.{canonical_text};
 ghost use Rattle.pn_tree.specs.Elements.{IsTree};
 ghost use Rattle.pn_tree.specs.declared.element.Element.{Element};
+ghost use Rattle.pn_command.specs.Answer.{Answer, IsDueForNet};
+ghost use Rattle.pn_command.specs.Outputs.{IsModesText};
+ghost use Rattle.pn_command.specs.Words.{argument_of};
 ghost use Rattle.pn_command.specs.Written.{SpellsNet};
+
+use crate::{Asked, Status};
 
 /// What `flatten` writes for a document that is accepted is again a document that is accepted, and its net
 /// is the same net as the flat net of the input.
@@ -38,4 +43,12 @@ pub fn what_is_written_keeps_every_step()
         → (old new : List (Token × ℕ)) (modes : List (Mode × ℕ)) → IsStep f old modes new ↔ IsStep g old modes new }
     ensures initial { (tree other : Element) (f g : Flat) → IsAccepted tree → IsLinked tree f → IsDocument other (canonical_text (tree_of_net (net_of_flat f))) → IsLinked other g
         → (marking : List (Token × ℕ)) → IsInitial f marking ↔ IsInitial g marking }
+{}
+
+/// Where `modes` is done, what it writes is the texts of the modes of the transition that the word behind
+/// it names, those that are enabled at the initial marking, ascending, each once, a line each (ISO/IEC
+/// 15909-1, enabling).
+pub fn modes_are_listed()
+    ensures { (words : List (List ℕ)) (f : Flat) (a : Answer) → IsDueForNet Asked.Modes words f a → a.status ≡ Status.Done
+        → IsModesText f (argument_of words) a.out }
 {}
