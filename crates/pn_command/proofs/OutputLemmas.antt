@@ -8,7 +8,7 @@ use Rattle.pn_checks.specs.Verdicts.{IsAccepted}
 use Rattle.pn_eval.proofs.OnceLemmas.{value_once}
 use Rattle.pn_firing.proofs.OneListLemmas.{lines_once, listed_once, listed_or_not, unlisted_once}
 use Rattle.pn_firing.specs.Lines.{HasModeLines}
-use Rattle.pn_firing.specs.Listing.{IsTold}
+use Rattle.pn_firing.specs.Listing.{IsReason}
 use Rattle.pn_firing.specs.declared.listing.ListFault.{ListFault}
 use Rattle.pn_firing.specs.declared.listing.ListFault.TheVariants as unlisted
 use Rattle.pn_net.proofs.OrderLemmas.{same_tokens}
@@ -49,7 +49,7 @@ one_output Modes words f x y sound p q =
     lines_once f q.modes x y (subst (λ ms. HasModeLines f ms x) same p.has_lines) q.has_lines
 
 -- a fault that has a line tells something
-line_told : (id : List ℕ) (x : ListFault) (l : Line) → line_of_unlisted id x ≡ Some l → IsTold x
+line_told : (id : List ℕ) (x : ListFault) (l : Line) → line_of_unlisted id x ≡ Some l → IsReason x
 line_told id (unlisted.Memory e) l is = absurd cc
 line_told id unlisted.UnknownTransition l is = tt
 line_told id (unlisted.InfiniteSort v) l is = tt

@@ -2,7 +2,7 @@
 use Rattle.std.specs.Prelude.{◌≡◌, ℕ, ◌<◌, List, length, Option, None, Some}
 use Rattle.pn_checks.specs.Initial.{IsInitial}
 use Rattle.pn_firing.specs.Lines.{HasModeLines}
-use Rattle.pn_firing.specs.Listing.{IsListed, IsUnlisted}
+use Rattle.pn_firing.specs.Listing.{AreListed, IsUnlisted}
 use Rattle.pn_firing.specs.declared.listing.ListFault.{ListFault}
 use Rattle.pn_firing.specs.declared.listing.ListFault.TheVariants as unlisted
 use Rattle.pn_net.specs.Flattening.{net_of_flat}
@@ -36,7 +36,7 @@ IsFlatText f text = text ≡ canonical_text (tree_of_net (net_of_flat f))
 -- the enabled modes of the transition of this id, a line each
 pub record IsModesText (f : Flat) (id : List ℕ) (text : List ℕ) : Type 0 where
   pub modes : List Mode
-  pub are_listed : IsListed f id modes
+  pub are_listed : AreListed f id modes
   pub has_lines : HasModeLines f modes text
 
 -- what a command gives for a flat net: `check` its summary, `flatten` its text, `modes` the enabled modes of the transition that the word behind it names

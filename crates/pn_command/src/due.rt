@@ -70,12 +70,7 @@ fn net_due(
 }
 
 /// What is due for a command and a tree.
-fn tree_due(
-    alloc: Global,
-    asked: Asked,
-    words: &[String],
-    tree: &Tree,
-) -> Result<Due, AllocError>
+fn tree_due(alloc: Global, asked: Asked, words: &[String], tree: &Tree) -> Result<Due, AllocError>
     ensures due { IfOk result (λ d. HasRisingOffsets tree.now → SaysSuch (IsDueForTree asked (map string_bytes words.now) tree.now) d) }
     ensures asked { IfOk result (λ d. status_of_due d ≢ Status.Usage) }
 {

@@ -31,7 +31,7 @@ use Rattle.pn_net.specs.declared.token.Token.{Token}
 use Rattle.pn_sorts.specs.Standing.{IsFaultless}
 use Rattle.pn_terms.proofs.SortLemmas.{same_some}
 use Rattle.pn_firing.specs.Lines.{HasModeLines, mode_line}
-use Rattle.pn_firing.specs.Listing.{IsIdOf, IsInfiniteIn, IsListed, IsListedAt, IsTold, IsUnlisted}
+use Rattle.pn_firing.specs.Listing.{IsIdOf, IsInfiniteIn, AreListed, AreListedAt, IsReason, IsUnlisted}
 use Rattle.pn_firing.specs.declared.listing.ListFault.{ListFault}
 use Rattle.pn_firing.specs.declared.listing.ListFault.TheVariants as faults
 
@@ -88,7 +88,7 @@ one_initial : (f : Flat) (m k : List (Token × ℕ)) → IsFaultless f.declarati
 one_initial f m k sound =
     initial_once (same_entries tokens_total (λ a b. (same_tokens a b).0)) f f m k (says_once f.declarations (λ e o p. value_once f.declarations [] [] sound e o p)) refl refl
 
-listed_at_once : (f : Flat) (t : ℕ) (xs ys : List Mode) → IsFaultless f.declarations → IsListedAt f t xs → IsListedAt f t ys → xs ≡ ys
+listed_at_once : (f : Flat) (t : ℕ) (xs ys : List Mode) → IsFaultless f.declarations → AreListedAt f t xs → AreListedAt f t ys → xs ≡ ys
 listed_at_once f t xs ys sound p q =
     let same : p.initial ≡ q.initial = one_initial f p.initial q.initial sound p.is_initial q.is_initial in
     modes_once f t q.initial xs ys (subst (λ m. AreModesOf f t (Some m) xs) same p.are_modes) q.are_modes
@@ -97,8 +97,8 @@ listed_at_once f t xs ys sound p q =
 same_named : (f : Flat) (id : List ℕ) (t u : ℕ) → transition_named f id ≡ Some t → transition_named f id ≡ Some u → t ≡ u
 same_named f id t u is also = same_some t u (transition_named f id) is also
 
-pub listed_once : (f : Flat) (id : List ℕ) (xs ys : List Mode) → IsFaultless f.declarations → IsListed f id xs → IsListed f id ys → xs ≡ ys
-listed_once f id xs ys sound (t, is, p) (u, also, q) = listed_at_once f u xs ys sound (subst (λ n. IsListedAt f n xs) (same_named f id t u is also) p) q
+pub listed_once : (f : Flat) (id : List ℕ) (xs ys : List Mode) → IsFaultless f.declarations → AreListed f id xs → AreListed f id ys → xs ≡ ys
+listed_once f id xs ys sound (t, is, p) (u, also, q) = listed_at_once f u xs ys sound (subst (λ n. AreListedAt f n xs) (same_named f id t u is also) p) q
 
 -- ---- one text
 
@@ -129,7 +129,7 @@ module _ (f : Flat) (id : List ℕ) where
   infinite_or_many : (t u n : ℕ) (x : List ℕ) → transition_named f id ≡ Some t → transition_named f id ≡ Some u → IsInfiniteIn f t x → HasManyAssignments f u n → ⊥
   infinite_or_many t u n x is also (v, first, has) many = finite_product f u many.0 v many.1 (subst (λ k. IsFirstInfinite f k (Some v)) (same_named f id t u is also) first)
 
-  pub unlisted_once : (x y : ListFault) → IsTold x → IsTold y → IsUnlisted f id x → IsUnlisted f id y → x ≡ y
+  pub unlisted_once : (x y : ListFault) → IsReason x → IsReason y → IsUnlisted f id x → IsUnlisted f id y → x ≡ y
   unlisted_once (faults.Memory e) y told known p q = absurd told
   unlisted_once x (faults.Memory e) told known p q = absurd known
   unlisted_once faults.UnknownTransition faults.UnknownTransition told known p q = refl
@@ -144,7 +144,7 @@ module _ (f : Flat) (id : List ℕ) where
       ap faults.TooManyAssignments (one_told f u n m (subst (λ k. HasManyAssignments f k n) (same_named f id t u is also) p) q)
 
   -- what is listed has no reason not to be
-  pub listed_or_not : (modes : List Mode) (x : ListFault) → IsTold x → IsListed f id modes → IsUnlisted f id x → ⊥
+  pub listed_or_not : (modes : List Mode) (x : ListFault) → IsReason x → AreListed f id modes → IsUnlisted f id x → ⊥
   listed_or_not modes (faults.Memory e) told p q = told
   listed_or_not modes faults.UnknownTransition told (t, is, p) q = no_transition t q is
   listed_or_not modes (faults.InfiniteSort x) told (t, is, p) (u, also, (v, first, has)) =
@@ -154,7 +154,7 @@ module _ (f : Flat) (id : List ℕ) where
 -- ---- what is listed can be put
 
 -- each mode that is listed has values of their sorts
-pub listed_assigned : (f : Flat) (id : List ℕ) (modes : List Mode) → IsListed f id modes → (m : Mode) → Contains modes m → (vars : List ℕ) × IsAssigned f m vars
+pub listed_assigned : (f : Flat) (id : List ℕ) (modes : List Mode) → AreListed f id modes → (m : Mode) → Contains modes m → (vars : List ℕ) × IsAssigned f m vars
 listed_assigned f id modes (t, is, p) m has = let mode = (p.are_modes.only m has).1.0 in (mode.0, mode.1.assigned)
 
 mode_has_text : (f : Flat) (vars : List ℕ) (typed : List TypedVariable) (m : Mode) → IsAssigned f m vars → AllZip (IsTypedVariable f.declarations) vars typed → (text : List ℕ) × IsModeText f m text
@@ -172,7 +172,7 @@ modes_have_texts f t (m ∷ modes) each =
     (first.0 ∷ rest.0, (first.1, rest.1))
 
 -- and its lines
-pub listed_lines : (f : Flat) (id : List ℕ) (modes : List Mode) → IsListed f id modes → (text : List ℕ) × HasModeLines f modes text
+pub listed_lines : (f : Flat) (id : List ℕ) (modes : List Mode) → AreListed f id modes → (text : List ℕ) × HasModeLines f modes text
 listed_lines f id modes (t, is, p) =
     let few = p.few.1 in
     let vars = few.0 in

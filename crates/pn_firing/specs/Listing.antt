@@ -14,15 +14,15 @@ use Rattle.pn_firing.specs.declared.listing.ListFault.{ListFault}
 use Rattle.pn_firing.specs.declared.listing.ListFault.TheVariants as faults
 
 -- the modes of the transition of this number that are enabled at the initial marking, where it has no more assignments than are listed
-pub record IsListedAt (f : Flat) (t : ℕ) (modes : List Mode) : Type 0 where
+pub record AreListedAt (f : Flat) (t : ℕ) (modes : List Mode) : Type 0 where
   pub few : HasFewAssignments f t
   pub initial : List (Token × ℕ)
   pub is_initial : IsInitial f initial
   pub are_modes : AreModesOf f t (Some initial) modes
 
 -- so for the transition of this id
-abbrev pub IsListed : Flat → List ℕ → List Mode → Type 0
-IsListed f id modes = (t : ℕ) × (transition_named f id ≡ Some t) × IsListedAt f t modes
+abbrev pub AreListed : Flat → List ℕ → List Mode → Type 0
+AreListed f id modes = (t : ℕ) × (transition_named f id ≡ Some t) × AreListedAt f t modes
 
 -- the variable of this number has this id
 abbrev pub IsIdOf : Flat → ℕ → List ℕ → Type 0
@@ -47,8 +47,8 @@ IsUnlisted f id (faults.InfiniteSort x) = (t : ℕ) × (transition_named f id �
 IsUnlisted f id (faults.TooManyAssignments n) = (t : ℕ) × (transition_named f id ≡ Some t) × HasManyAssignments f t n
 
 -- a fault that tells something
-abbrev pub IsTold : ListFault → Type 0
-IsTold (faults.Memory e) = ⊥
-IsTold faults.UnknownTransition = Unit {0}
-IsTold (faults.InfiniteSort id) = Unit {0}
-IsTold (faults.TooManyAssignments n) = Unit {0}
+abbrev pub IsReason : ListFault → Type 0
+IsReason (faults.Memory e) = ⊥
+IsReason faults.UnknownTransition = Unit {0}
+IsReason (faults.InfiniteSort id) = Unit {0}
+IsReason (faults.TooManyAssignments n) = Unit {0}

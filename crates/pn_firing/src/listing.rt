@@ -2,7 +2,7 @@
 
 ghost use Rattle.std.specs.Prelude.{◌<◌, length, IfErr, IfOk, Some};
 ghost use Rattle.pn_modes.specs.Causes.{IsFirstInfinite};
-ghost use Rattle.pn_firing.specs.Listing.{IsIdOf, IsListed, IsListedAt, IsUnlisted, IsUnlistedAt};
+ghost use Rattle.pn_firing.specs.Listing.{IsIdOf, AreListed, AreListedAt, IsUnlisted, IsUnlistedAt};
 
 use pn_checks::Checked;
 use pn_modes::{ModesFault, enabled};
@@ -26,7 +26,7 @@ pub enum ListFault {
 /// The modes of the transition of this id that are enabled at the initial marking, ascending (ISO/IEC
 /// 15909-1, enabling).
 pub fn list_enabled(alloc: Global, net: &Checked, id: &str) -> Result<Vec<Mode>, ListFault>
-    ensures listed { IfOk result (λ modes. IsListed net.now id.now modes.items) }
+    ensures listed { IfOk result (λ modes. AreListed net.now id.now modes.items) }
     ensures unlisted { IfErr result (IsUnlisted net.now id.now) }
 {
     match net.typed().find_transition(id) {
@@ -38,7 +38,7 @@ pub fn list_enabled(alloc: Global, net: &Checked, id: &str) -> Result<Vec<Mode>,
 /// The enabled modes of the transition of this number.
 fn enabled_at(alloc: Global, net: &Checked, transition: u32) -> Result<Vec<Mode>, ListFault>
     requires { transition < length net.now.transitions }
-    ensures listed { IfOk result (λ modes. IsListedAt net.now transition modes.items) }
+    ensures listed { IfOk result (λ modes. AreListedAt net.now transition modes.items) }
     ensures unlisted { IfErr result (IsUnlistedAt net.now transition) }
 {
     match enabled(alloc, net.typed(), transition, net.initial()) {
