@@ -10,7 +10,7 @@ use pn_outside::{Failed, Sink, put_all};
 
 /// Whether a byte stands in a line as it is: an ASCII letter or digit, `_`, `-`, `.`, or a byte past
 /// ASCII.
-fn is_plain(byte: u8) -> bool
+pub fn is_plain(byte: u8) -> bool
     ensures { result ≡ is_plain byte }
 {
     let is_mark = byte == b'_' || byte == b'-' || byte == b'.';
@@ -18,7 +18,7 @@ fn is_plain(byte: u8) -> bool
 }
 
 /// The upper-case hexadecimal digit of a number.
-fn hex_digit(number: u8) -> u8
+pub fn hex_digit(number: u8) -> u8
     requires { number < 16 }
     ensures { result ≡ digit_glyph true number }
 {

@@ -5,5 +5,5 @@ mod escape;
 pub mod laws;
 mod number;
 
-pub use escape::put_escaped;
+pub use escape::{hex_digit, is_plain, put_escaped};
 pub use number::put_count;

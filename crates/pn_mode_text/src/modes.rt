@@ -79,7 +79,7 @@ pub fn put_mode<K: Sink>(net: &Typed, mode: &Mode, sink: &mut K) -> Result<(), F
 }
 
 /// Each of these variables has a sort: asked for what it ensures alone.
-fn have_sorts(decls: &Decls, vars: &[u32])
+pub(crate) fn have_sorts(decls: &Decls, vars: &[u32])
     requires faultless { IsFaultless decls.now }
     requires declared { (v : ℕ) → Contains vars.now v → v < length (variables_of decls.now) }
     ensures { (typed : List TypedVariable) × AllZip (IsTypedVariable decls.now) vars.now typed }

@@ -4,3 +4,5 @@
 pub mod rows;
 #[cfg(test)]
 mod texts;
+#[cfg(test)]
+mod words;

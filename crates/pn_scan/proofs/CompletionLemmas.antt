@@ -23,7 +23,7 @@ use Rattle.pn_scan.specs.NextState.{is_entity_front, is_part_front}
 use Rattle.pn_scan.specs.Viable.{IsViable, AreTexts, OfNesting, OfHolder, MaybeName, OfNumber}
 use Rattle.pn_scan.proofs.Spans.{all_append_right, name_more}
 use Rattle.pn_scan.proofs.RunLaws.{over_comes}
-use Rattle.pn_scan.proofs.CharacterLemmas.{character_in}
+use Rattle.pn_utf8.proofs.CharacterLemmas.{character_in}
 use Rattle.pn_scan.proofs.ReferenceLaws.{full_name, begins_rest}
 use Rattle.pn_scan.proofs.ClosingLemmas.{Some-tree, closings, closings_text, closings_name, marked_all, behind_closes, body_closes, nesting_closing, nesting_text, resumed_closes, tag_closes}
 use Rattle.pn_scan.proofs.PartLemmas.{lower_append}

@@ -6,7 +6,7 @@ use Rattle.pn_scan.specs.Contexts.{state_of, KeepsWhole, WasChecked}
 use Rattle.pn_scan.specs.declared.context.Context.{Context}
 use Rattle.pn_scan.specs.declared.context.Kept.{Kept}
 use Rattle.pn_scan.specs.declared.context.Context.TheVariants as contexts
-use Rattle.pn_scan.proofs.TextLemmas.{cut_text}
+use Rattle.pn_utf8.proofs.TextLemmas.{cut_text}
 use Rattle.pn_markup.proofs.NameLemmas.{name_of_bytes}
 use Rattle.pn_markup.proofs.CutLemmas.{quote_low}
 

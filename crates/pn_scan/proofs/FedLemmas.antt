@@ -8,14 +8,14 @@ use Rattle.pn_markup.specs.Document.{Markup, IsDocument, IsFront}
 use Rattle.pn_scan.specs.State.{State, at_start, at_end}
 use Rattle.pn_scan.specs.Rest.{Rest, Body, Whole}
 use Rattle.pn_scan.specs.NextState.{next_state}
-use Rattle.pn_scan.specs.Characters.{open_behind}
+use Rattle.pn_utf8.specs.Characters.{open_behind}
 use Rattle.pn_scan.specs.Viable.{IsViable}
 use Rattle.pn_scan.specs.Fed.{Fed}
 use Rattle.pn_scan.proofs.Tools.{Case}
 use Rattle.pn_scan.proofs.PieceLemmas.{some_is}
 use Rattle.pn_scan.proofs.NextStateLaw.{law}
 use Rattle.pn_scan.proofs.ViableLemmas.{Keeps, keeps}
-use Rattle.pn_scan.proofs.TextLemmas.{text_goes, text_comes, open_still, open_text}
+use Rattle.pn_utf8.proofs.TextLemmas.{text_goes, text_comes, open_still, open_text}
 use Rattle.pn_scan.proofs.HighLemmas.{completes_all}
 use Rattle.pn_scan.proofs.EndLemmas.{ends}
 

@@ -7,13 +7,13 @@ use Rattle.pn_text.specs.Characters.{is_name_part, is_text}
 use Rattle.pn_markup.specs.Bytes.{is_quote}
 use Rattle.pn_scan.specs.State.{Nesting, State, at_start, outside, at_end, in_run, at_markup, at_bang, in_comment, in_target, in_instruction, in_section, in_name, in_tag, in_attribute, before_equals, behind_equals, in_value, at_reference, in_entity, at_number, in_number, due, in_end, in_declaration, before_part_equals, behind_part_equals, in_part}
 use Rattle.pn_scan.specs.NextState.{next_state}
-use Rattle.pn_scan.specs.Characters.{open_behind, AreOpen}
+use Rattle.pn_utf8.specs.Characters.{open_behind, AreOpen}
 use Rattle.pn_scan.specs.Viable.{IsViable}
 use Rattle.pn_scan.proofs.Tools.{Case}
 use Rattle.pn_scan.proofs.NextStateLaw.{law}
 use Rattle.pn_scan.proofs.ViableLemmas.{Keeps, keeps}
 use Rattle.pn_scan.proofs.CompletionLemmas.{Completes, completes, no_list}
-use Rattle.pn_scan.proofs.TextLemmas.{text_goes, text_comes, open_still, open_text, fill, whole_text}
+use Rattle.pn_utf8.proofs.TextLemmas.{text_goes, text_comes, open_still, open_text, fill, whole_text}
 use Rattle.pn_text.proofs.TextLemmas.{is_text-append}
 
 -- states in which any byte past ASCII may come

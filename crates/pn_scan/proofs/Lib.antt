@@ -22,8 +22,6 @@ pub mod AttributeNameLemmas
 pub mod NameLemmas
 pub mod OpenTreeLemmas
 pub mod NextStateLemmas
-pub mod CharacterLemmas
-pub mod TextLemmas
 pub mod ViableLemmas
 pub mod ClosingLemmas
 pub mod CompletionLemmas

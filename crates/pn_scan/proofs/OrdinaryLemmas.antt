@@ -12,11 +12,11 @@ use Rattle.pn_markup.specs.Bytes.{is_space, is_quote}
 use Rattle.pn_markup.specs.Tags.{named}
 use Rattle.pn_scan.specs.State.{State, Nesting, no_bracket, at_start, outside, at_end, in_run, at_markup, at_bang, in_comment, in_target, in_instruction, in_section, in_name, in_tag, in_attribute, before_equals, behind_equals, in_value, at_reference, in_entity, at_number, in_number, due, in_end, in_declaration, before_part_equals, behind_part_equals, in_part}
 use Rattle.pn_scan.specs.NextState.{next_state, goes_due, next_in_run, next_in_section, next_in_value, next_in_tag, line_text, space_text}
-use Rattle.pn_scan.specs.Characters.{is_whole}
+use Rattle.pn_utf8.specs.Characters.{is_whole}
 use Rattle.pn_scan.specs.Viable.{IsViable}
 use Rattle.pn_scan.specs.Nestings.{nesting_of, levels_of, inner_of, outer_of, levels_for, outer_for}
 use Rattle.pn_scan.specs.Contexts.{state_of, end_of, end_state, Admits}
-use Rattle.pn_scan.specs.Open.{open_bytes}
+use Rattle.pn_utf8.specs.Open.{open_bytes}
 use Rattle.pn_scan.specs.Fed.{Fed}
 use Rattle.pn_scan.specs.Reading.{IsReading}
 use Rattle.pn_scan.specs.Ordinary.{is_ascii, is_ordinary_text, is_ordinary_name, is_ordinary_value, is_ordinary_but, is_high, or_high, ordinary_text, ordinary_value, ordinary_but, ordinary_space, is_ordinary, behind_ordinary, IsSlice}
@@ -26,11 +26,11 @@ use Rattle.pn_scan.specs.declared.context.Brackets.TheVariants.{Zero, One, Two}
 use Rattle.pn_scan.specs.declared.context.Context.{Context}
 use Rattle.pn_scan.specs.declared.context.Kept.{Kept}
 use Rattle.pn_scan.specs.declared.context.Context.TheVariants as contexts
-use Rattle.pn_scan.specs.declared.characters.Open.{Open}
+use Rattle.pn_utf8.specs.declared.characters.Open.{Open}
 use Rattle.pn_scan.proofs.NextStateLemmas.{if_true, if_false, end_some}
 use Rattle.pn_scan.proofs.Tools.{head_is, tail_is, no_head}
 use Rattle.pn_scan.proofs.FedLemmas.{fed_more}
-use Rattle.pn_scan.proofs.TextLemmas.{whole_text, text_goes, open_text}
+use Rattle.pn_utf8.proofs.TextLemmas.{whole_text, text_goes, open_text}
 use Rattle.pn_scan.proofs.ReadingLemmas.{take_whole}
 use Rattle.pn_facts.proofs.Lists.{front_passes, list_all_each, all_append, take_got}
 

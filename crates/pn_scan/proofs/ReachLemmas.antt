@@ -4,7 +4,7 @@ use Rattle.pn_tree.specs.declared.element.Element.{Element}
 use Rattle.pn_markup.specs.Document.{IsDocument, IsFront}
 use Rattle.pn_scan.specs.State.{State, at_start, at_end}
 use Rattle.pn_scan.specs.NextState.{next_state}
-use Rattle.pn_scan.specs.Characters.{open_behind}
+use Rattle.pn_utf8.specs.Characters.{open_behind}
 use Rattle.pn_scan.specs.Fed.{Fed}
 use Rattle.pn_scan.proofs.FedLemmas.{fed_start, fed_more, fed_no_character, fed_no_state, fed_document, front_less}
 

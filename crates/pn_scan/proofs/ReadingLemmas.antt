@@ -7,16 +7,16 @@ use Rattle.pn_outside.specs.declared.limits.TheConstants.{BYTES}
 use Rattle.pn_markup.specs.Document.{IsDocument, IsFront, IsBreak}
 use Rattle.pn_scan.specs.State.{at_end}
 use Rattle.pn_scan.specs.NextState.{next_state}
-use Rattle.pn_scan.specs.Characters.{open_behind}
+use Rattle.pn_utf8.specs.Characters.{open_behind}
 use Rattle.pn_scan.specs.Fed.{Fed}
 use Rattle.pn_scan.specs.Nestings.{nesting_of, inner_of, Belongs}
 use Rattle.pn_scan.specs.Contexts.{state_of, Admits}
-use Rattle.pn_scan.specs.Open.{open_bytes}
+use Rattle.pn_utf8.specs.Open.{open_bytes}
 use Rattle.pn_scan.specs.Reading.{IsReading, IsBroken, IsTooLong, IsOnlyFront, IsMemory, HasReadTo, EndsAt, answer_of}
 use Rattle.pn_scan.specs.declared.open_tree.OpenTree.{OpenTree}
 use Rattle.pn_scan.specs.declared.context.Context.{Context}
 use Rattle.pn_scan.specs.declared.context.Kept.{Kept}
-use Rattle.pn_scan.specs.declared.characters.Open.{Open}
+use Rattle.pn_utf8.specs.declared.characters.Open.{Open}
 use Rattle.pn_scan.specs.declared.scanner.ScanFault.{ScanFault}
 use Rattle.pn_scan.specs.declared.scanner.ScanFault.TheVariants.{Memory, Broken, TooLong}
 use Rattle.pn_scan.proofs.FedLemmas.{fed_front, fed_more, fed_no_character, fed_no_state, fed_document, document_fed, front_less}

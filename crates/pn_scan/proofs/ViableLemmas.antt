@@ -17,13 +17,13 @@ use Rattle.pn_markup.specs.Tags.{named}
 use Rattle.pn_scan.specs.State.{Nesting, before, within, behind, Holder, of_content, of_value, Part, version, encoding, standalone, Stage, all_due, Brackets, no_bracket, one_bracket, two_brackets, State, at_start, outside, at_end, in_run, at_markup, at_bang, in_comment, in_target, in_instruction, in_section, in_name, in_tag, in_attribute, before_equals, behind_equals, in_value, at_reference, in_entity, at_number, in_number, due, in_end, in_declaration, before_part_equals, behind_part_equals, in_part, behind_element, behind_piece, behind_reference, room_at}
 use Rattle.pn_scan.specs.Rest.{brackets, may_come, may_end, stage_behind, is_part_value}
 use Rattle.pn_scan.specs.NextState.{next_state, goes_due, next_outside, line_text, space_text, are_two, brackets_behind, next_in_run, end_begins, name_begins, next_at_markup, section_begins, next_at_bang, next_in_comment, is_before, next_in_target, next_in_instruction, bracket_in, cr_behind, next_in_section, next_in_tag, next_before_equals, next_behind_equals, next_in_value, entity_of, is_entity_front, entity_found, next_in_entity, next_in_number, next_due, part_begins, next_in_declaration, is_part_front, next_in_part}
-use Rattle.pn_scan.specs.Characters.{open_behind, AreOpen, Cut}
+use Rattle.pn_utf8.specs.Characters.{open_behind, AreOpen, Cut}
 use Rattle.pn_scan.specs.Viable.{IsViable, AreTexts, OfNesting, OfName, OfValue, OfHolder, MaybeName, AreWhole, OfNumber}
 use Rattle.pn_scan.proofs.Spans.{all_first, all_append_right, name_more}
 use Rattle.pn_scan.proofs.PieceLemmas.{some_is}
 use Rattle.pn_scan.proofs.PartLemmas.{begins_all, front_ascii}
 use Rattle.pn_scan.proofs.ReferenceLaws.{full-entity_of, front_true}
-use Rattle.pn_scan.proofs.TextLemmas.{text_goes, cut_next, cut_text, text_cut, ascii_alone, open_text, open_still}
+use Rattle.pn_utf8.proofs.TextLemmas.{text_goes, cut_next, cut_text, text_cut, ascii_alone, open_text, open_still}
 use Rattle.pn_scan.proofs.ElementLemmas.{name_kept}
 use Rattle.pn_markup.proofs.CutLemmas.{entity_is_text}
 

@@ -5,7 +5,7 @@ use Rattle.pn_tree.specs.declared.element.Element.{Element}
 use Rattle.pn_markup.specs.Document.{Markup}
 use Rattle.pn_scan.specs.State.{State}
 use Rattle.pn_scan.specs.Rest.{Rest}
-use Rattle.pn_scan.specs.Characters.{AreOpen}
+use Rattle.pn_utf8.specs.Characters.{AreOpen}
 use Rattle.pn_scan.specs.Viable.{IsViable}
 
 -- the state s, with the open bytes p of a character, was reached by the bytes b: behind b a document goes on exactly as it goes on from the state

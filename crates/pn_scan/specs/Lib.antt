@@ -1,12 +1,10 @@
 pub mod State
 pub mod Rest
 pub mod NextState
-pub mod Characters
 pub mod Viable
 pub mod Names
 pub mod Nestings
 pub mod Contexts
-pub mod Open
 pub mod Fed
 pub mod Reading
 pub mod Ordinary

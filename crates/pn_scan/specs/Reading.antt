@@ -6,12 +6,12 @@ use Rattle.pn_tree.specs.declared.element.Element.{Element}
 use Rattle.pn_scan.specs.State.{Nesting, at_end}
 use Rattle.pn_scan.specs.Nestings.{nesting_of, inner_of, Belongs}
 use Rattle.pn_scan.specs.Contexts.{state_of, Admits}
-use Rattle.pn_scan.specs.Open.{open_bytes}
+use Rattle.pn_utf8.specs.Open.{open_bytes}
 use Rattle.pn_scan.specs.Fed.{Fed}
 use Rattle.pn_scan.specs.declared.open_tree.OpenTree.{OpenTree}
 use Rattle.pn_scan.specs.declared.context.Context.{Context}
 use Rattle.pn_scan.specs.declared.context.Kept.{Kept}
-use Rattle.pn_scan.specs.declared.characters.Open.{Open}
+use Rattle.pn_utf8.specs.declared.characters.Open.{Open}
 use Rattle.pn_scan.specs.declared.scanner.ScanFault.{ScanFault}
 use Rattle.pn_scan.specs.declared.scanner.ScanFault.TheVariants.{Memory, Broken, TooLong}
 use Rattle.pn_scan.specs.declared.scanner.Scanner.{Scanner}

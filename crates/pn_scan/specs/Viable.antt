@@ -6,7 +6,7 @@ use Rattle.pn_markup.specs.Bytes.{is_quote, Name}
 use Rattle.pn_tree.specs.declared.element.Element.{Element}
 use Rattle.pn_scan.specs.State.{Nesting, Holder, Brackets, State, before, within, behind, of_content, of_value, no_bracket, one_bracket, two_brackets, at_start, outside, at_end, in_run, at_markup, at_bang, in_comment, in_target, in_instruction, in_section, in_name, in_tag, in_attribute, before_equals, behind_equals, in_value, at_reference, in_entity, at_number, in_number, due, in_end, in_declaration, before_part_equals, behind_part_equals, in_part}
 use Rattle.pn_scan.specs.NextState.{entity_of, is_entity_front, is_part_front}
-use Rattle.pn_scan.specs.Characters.{Cut}
+use Rattle.pn_utf8.specs.Characters.{Cut}
 
 -- the names of elements are texts
 abbrev pub AreTexts : List Element → Type 0

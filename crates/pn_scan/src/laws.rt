@@ -5,7 +5,7 @@ ghost use Rattle.pn_tree.specs.declared.element.Element.{Element};
 ghost use Rattle.pn_markup.specs.Document.{IsDocument, IsFront};
 ghost use Rattle.pn_scan.specs.State.{State, at_start, at_end};
 ghost use Rattle.pn_scan.specs.NextState.{next_state};
-ghost use Rattle.pn_scan.specs.Characters.{open_behind};
+ghost use Rattle.pn_utf8.specs.Characters.{open_behind};
 ghost use Rattle.pn_scan.specs.Fed.{Fed};
 
 /// A text spells one tree.

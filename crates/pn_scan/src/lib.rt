@@ -4,7 +4,6 @@
 mod advance;
 mod attribute;
 mod bytes;
-mod characters;
 mod context;
 mod declaration;
 pub mod laws;

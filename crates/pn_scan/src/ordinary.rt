@@ -9,8 +9,8 @@ ghost use Rattle.pn_scan.specs.Contexts.{state_of};
 ghost use Rattle.pn_scan.specs.Ordinary.{is_ascii, is_ordinary_text, is_ordinary_name, is_ordinary_value, is_ordinary_but, is_high, or_high, ordinary_text, ordinary_value, ordinary_but, ordinary_space, is_ordinary, behind_ordinary, IsSlice};
 
 use crate::bytes::{continues_name, is_space_byte};
-use crate::characters::character_front;
 use crate::context::{Brackets, Context, Kept};
+use pn_utf8::character_front;
 use std::alloc::AllocError;
 
 /// A character of one byte, but CR.

@@ -9,12 +9,12 @@ ghost use Rattle.pn_scan.specs.State.{Nesting};
 ghost use Rattle.pn_scan.specs.Reading.{IsReading, IsBroken, IsTooLong, IsOnlyFront, IsMemory, HasReadTo, HasRead, EndsAt, answer_of, fault_of};
 
 use crate::advance::advance;
-use crate::characters::Open;
 use crate::context::{Brackets, Context, Kept};
 use crate::open_tree::{OpenTree, Where};
 use crate::ordinary::take_ordinary;
 use pn_outside::limits::BYTES;
 use pn_tree::Tree;
+use pn_utf8::Open;
 use std::alloc::{AllocError, Global};
 use thiserror::Error;
 

@@ -7,3 +7,6 @@ pub mod NumberLemmas
 pub mod DigitLemmas
 pub mod LiteralLemmas
 pub mod MarkLemmas
+pub mod PieceLemmas
+pub mod HeadLemmas
+pub mod SignedLemmas

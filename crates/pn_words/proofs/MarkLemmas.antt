@@ -112,12 +112,16 @@ listed_next texts n t marks b left less is h k = record {
         let same_text : u ≡ t = cc in
         falls_less w b less (min left less) (omega arith) (k.only (tt, p.1) w (u, same_text, mark, e))
 
--- the text of this place is read: no other text and mark begin so
+-- the text of this place and a mark are read where the bytes begin with them: no other text and mark begin so
+pub listed_at : (texts : List (List ℕ)) (n i : ℕ) (t : List ℕ) (marks b : List ℕ) (c : ℕ) (rest : List ℕ) → AreApart texts marks → i < n → slice_get texts i ≡ Some t → Contains marks c → b ≡ t ++ c ∷ rest
+    → IsRead (Closed (Listed texts n) marks) b (i, c) rest
+listed_at texts n i t marks b c rest apart lt got is cut =
+    closed_found (is_unmarked marks) (Listed texts n) marks (λ v u h. apart.unmarked v u h.1) (unmarked_ends marks) (λ u v x h k. apart.once u v x h.1 k.1) b i t c rest (lt, got) is cut
+
 pub listed_found : (texts : List (List ℕ)) (n i : ℕ) (t : List ℕ) (marks b : List ℕ) (c : ℕ) (rest : List ℕ) → AreApart texts marks → i < n → slice_get texts i ≡ Some t
     → IsRead (Closed (Only t) marks) b (tt, c) rest → IsRead (Closed (Listed texts n) marks) b (i, c) rest
 listed_found texts n i t marks b c rest apart lt got f =
-    closed_found (is_unmarked marks) (Listed texts n) marks (λ v u h. apart.unmarked v u h.1) (unmarked_ends marks) (λ u v x h k. apart.once u v x h.1 k.1)
-    b i t c rest (lt, got) f.is_word.2
+    listed_at texts n i t marks b c rest apart lt got f.is_word.2
     (f.cut ∙ ap (λ l. l ++ rest) (f.is_word.3 ∙ ap (λ l. l ++ c ∷ []) f.is_word.1) ∙ append_assoc t (c ∷ []) rest)
 
 -- a text was read, and behind it a mark is

@@ -24,10 +24,10 @@ then_found {V} {W} L M b v c u rest f g = record {
     other p w x y hx hy e (inl both) = second p w x y e both.0 both.1 (g.only p.1 y (subst (λ t. M t p.1 y) both.0 hy))
     other p w x y hx hy e (inr apart) = inr (subst (λ l. Apart l (f.word ++ g.word)) (sym e) (apart_both x f.word y g.word apart))
 
--- a break behind a word of the first
-pub then_broken : {V W : Type 0} (L : V → List ℕ → Type 0) (M : V → W → List ℕ → Type 0) (b : List ℕ) (v : V) (c : List ℕ) (left : ℕ)
-    → ((x : V) → (y : W) × (w : List ℕ) × M x y w) → IsRead L b v c → Broken (M v) c left → Broken (Then L M) b left
-then_broken {V} {W} L M b v c left member f g =
+-- a break behind a word of the first, behind which there are words
+pub then_broken_at : {V W : Type 0} (L : V → List ℕ → Type 0) (M : V → W → List ℕ → Type 0) (b : List ℕ) (v : V) (c : List ℕ) (left : ℕ)
+    → (y : W) × (w : List ℕ) × M v y w → IsRead L b v c → Broken (M v) c left → Broken (Then L M) b left
+then_broken_at {V} {W} L M b v c left member f g =
     let n : length b ≡ length f.word + length c = ap length f.cut ∙ length_both f.word c in
     record {
       within = omega (arith, n, g.within);
@@ -40,7 +40,7 @@ then_broken {V} {W} L M b v c left member f g =
 
     reached : length b ≡ length f.word + length c → SharesUpTo (M v) c left → (p : V × W) × (w : List ℕ) × Then L M p w × (length b ≤ same w b + left)
     reached n (inl e) =
-        let y = member v in
+        let y = member in
         ((v, y.0), f.word ++ y.1, (f.word, y.1, f.is_word, y.2, refl), (let s = shares y.1 in omega (arith, n, e, s)))
     reached n (inr r) =
         ((v, r.0), f.word ++ r.1, (f.word, r.1, f.is_word, r.2, refl), (let s = shares r.1 in omega (arith, n, s, r.3)))
@@ -58,10 +58,14 @@ then_broken {V} {W} L M b v c left member f g =
     other n p w x y hx hy e (inr apart) =
         apart_falls w (f.word ++ []) (c) b left (subst (λ l. Apart l (f.word ++ [])) (sym e) (apart_both x f.word y [] apart)) (f.cut ∙ ap (λ l. l ++ c) (sym (append-nil f.word))) g.within
 
--- a break in the word of the first
-pub first_broken : {V W : Type 0} (L : V → List ℕ → Type 0) (M : V → W → List ℕ → Type 0) (b : List ℕ) (left : ℕ)
-    → ((x : V) → (y : W) × (w : List ℕ) × M x y w) → Broken L b left → Broken (Then L M) b left
-first_broken {V} {W} L M b left member h = record {
+pub then_broken : {V W : Type 0} (L : V → List ℕ → Type 0) (M : V → W → List ℕ → Type 0) (b : List ℕ) (v : V) (c : List ℕ) (left : ℕ)
+    → ((x : V) → (y : W) × (w : List ℕ) × M x y w) → IsRead L b v c → Broken (M v) c left → Broken (Then L M) b left
+then_broken L M b v c left member f g = then_broken_at L M b v c left (member v) f g
+
+-- a break in the word of the first, where there are words behind each
+pub first_broken_among : {V W : Type 0} (L : V → List ℕ → Type 0) (M : V → W → List ℕ → Type 0) (b : List ℕ) (left : ℕ)
+    → ((x : V) (a : List ℕ) → L x a → (y : W) × (w : List ℕ) × M x y w) → Broken L b left → Broken (Then L M) b left
+first_broken_among {V} {W} L M b left member h = record {
   within = h.within;
   reach = reached h.reach;
   only = λ p w e. other w e.0 e.1 e.4 (h.only p.0 e.0 e.2);
@@ -70,7 +74,7 @@ first_broken {V} {W} L M b left member h = record {
     reached : SharesUpTo L b left → SharesUpTo (Then L M) b left
     reached (inl e) = inl e
     reached (inr r) =
-        let y = member r.0 in
+        let y = member r.0 r.1 r.2 in
         inr ((r.0, y.0), r.1 ++ y.1, (r.1, y.1, r.2, y.2, refl), (let s = same_more r.1 b y.1 in omega (arith, s, r.3)))
 
     other : (w x y : List ℕ) → w ≡ x ++ y → Falls x b left → Falls w b left
@@ -78,3 +82,7 @@ first_broken {V} {W} L M b left member h = record {
         let s : same w b ≡ same x b = ap (λ l. same l b) e ∙ same_short x b y f.short in
         let m : length w ≡ length x + length y = ap length e ∙ length_both x y in
         record { short = omega (arith, s, m, f.short); by = omega (arith, s, f.by) }
+
+pub first_broken : {V W : Type 0} (L : V → List ℕ → Type 0) (M : V → W → List ℕ → Type 0) (b : List ℕ) (left : ℕ)
+    → ((x : V) → (y : W) × (w : List ℕ) × M x y w) → Broken L b left → Broken (Then L M) b left
+first_broken L M b left member h = first_broken_among L M b left (λ x a is. member x) h

@@ -1,7 +1,8 @@
 -- From one language to another, and what holds on the way.
-use Rattle.std.proofs.Common.{◌≡◌, ◌⊎◌, inl, inr, ℕ, ◌≤◌, List, [], refl, ap, ◌∙◌, arith}
+use Rattle.std.proofs.Common.{◌≡◌, ◌⊎◌, inl, inr, ℕ, ◌<◌, ◌≤◌, Bool, true, false, List, [], leb, min, refl, ap, ◌∙◌, subst, arith}
+use Rattle.std.proofs.lemmas.Bool.Decides.{nat_tests}
 use Rattle.pn_words.specs.Languages.{Apart, Falls, IsRead, Broken, SharesUpTo, Then, Continues, Either, Only}
-use Rattle.pn_words.proofs.ThenLemmas.{then_found, then_broken}
+use Rattle.pn_words.proofs.ThenLemmas.{then_found, then_broken_at}
 
 -- the same language, but for the names of its values
 pub renamed : {V W : Type 0} (L : V → List ℕ → Type 0) (M : W → List ℕ → Type 0) (f : W → V) (b : List ℕ)
@@ -30,13 +31,17 @@ onward L b M c f N d g h k = record {
 pub start : {V : Type 0} (L : V → List ℕ → Type 0) (b : List ℕ) → Continues L b L b (λ v. v)
 start L b = record { found = λ u rest x. x; broken = λ left x. x }
 
--- behind a word of the first, the second goes on
+-- behind a word of the first, behind which there are words, the second goes on
+pub then_continues_at : {V W : Type 0} (L : V → List ℕ → Type 0) (M : V → W → List ℕ → Type 0) (b : List ℕ) (v : V) (c : List ℕ)
+    → (y : W) × (w : List ℕ) × M v y w → IsRead L b v c → Continues (Then L M) b (M v) c (λ u. (v, u))
+then_continues_at L M b v c member f = record {
+  found = λ u rest x. then_found L M b v c u rest f x;
+  broken = λ left x. then_broken_at L M b v c left member f x;
+}
+
 pub then_continues : {V W : Type 0} (L : V → List ℕ → Type 0) (M : V → W → List ℕ → Type 0) (b : List ℕ) (v : V) (c : List ℕ)
     → ((x : V) → (y : W) × (w : List ℕ) × M x y w) → IsRead L b v c → Continues (Then L M) b (M v) c (λ u. (v, u))
-then_continues L M b v c member f = record {
-  found = λ u rest x. then_found L M b v c u rest f x;
-  broken = λ left x. then_broken L M b v c left member f x;
-}
+then_continues L M b v c member f = then_continues_at L M b v c (member v) f
 
 -- nothing is left to read
 pub nothing_found : (b : List ℕ) → IsRead (Only []) b tt b
@@ -90,3 +95,15 @@ broken_second {V} L M b left h falls = record { within = h.within; reach = reach
 -- bytes that are broken for both
 pub broken_both : {V : Type 0} (L M : V → List ℕ → Type 0) (b : List ℕ) (left more : ℕ) → left ≤ more → Broken L b left → Broken M b more → Broken (Either L M) b left
 broken_both L M b left more le h k = broken_first L M b left h (λ u w x. falls_less w b more left le (k.only u w x))
+
+pub broken_least : {V : Type 0} (L M : V → List ℕ → Type 0) (b : List ℕ) (left less : ℕ) → Broken L b left → Broken M b less → Broken (Either L M) b (min left less)
+broken_least L M b left less h k = by (leb left less) refl
+  where
+    by : (c : Bool) → leb left less ≡ c → Broken (Either L M) b (min left less)
+    by true e =
+        let le : left ≤ less = grind (arith, nat_tests) in
+        let is : left ≡ min left less = omega (arith, le) in subst (Broken (Either L M) b) is (broken_both L M b left less le h k)
+    by false e =
+        let lt : less < left = grind (arith, nat_tests) in
+        let is : less ≡ min left less = omega (arith, lt) in
+        subst (Broken (Either L M) b) is (broken_second L M b less k (λ u w x. falls_less w b left less (omega (arith, lt)) (h.only u w x)))

@@ -4,7 +4,9 @@
 mod literals;
 mod marks;
 mod numbers;
+mod signs;
 
 pub use literals::{literal, shared};
-pub use marks::{closed_text, mark, one_of};
+pub use marks::{closed_text, is_mark, mark, one_of};
 pub use numbers::number;
+pub use signs::signed;

@@ -7,7 +7,7 @@ ghost use Rattle.pn_words.specs.Languages.{AreApart, Closed, Listed, Mark, Only,
 use crate::literals::literal;
 
 /// Whether a byte is one of the marks.
-pub(crate) fn is_mark(marks: &[u8], byte: u8) -> bool
+pub fn is_mark(marks: &[u8], byte: u8) -> bool
     ensures { IsTrue result ↔ Contains marks.now byte }
 {
     marks.contains(&byte)

@@ -1,10 +1,10 @@
 use Rattle.std.proofs.Common.{IfSome, length, sym, ap, subst, ◌∙◌}
 use Rattle.std.specs.Option.{option_map}
 use Rattle.pn_scan.specs.Viable.{IsViable}
-use Rattle.pn_scan.specs.Open.{open_bytes}
+use Rattle.pn_utf8.specs.Open.{open_bytes}
 use Rattle.pn_scan.specs.Nestings.{nesting_of}
 use Rattle.pn_scan.specs.Contexts.{state_of, Admits}
-use Rattle.pn_scan.proofs.TextLemmas.{ascii_alone}
+use Rattle.pn_utf8.proofs.TextLemmas.{ascii_alone}
 use Rattle.pn_scan.proofs.ContextLemmas.{whole_of, kept_of}
 use Rattle.pn_scan.proofs.ReadingLemmas.{too_long_is, no_character, no_markup, one_more}
 use Rattle.pn_scan.proofs.scanner.Scanner.read.Goals as goal

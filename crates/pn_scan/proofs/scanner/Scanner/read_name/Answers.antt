@@ -1,6 +1,6 @@
 use Rattle.std.proofs.Common.{◌-◌, refl, ap}
 use Rattle.pn_outside.specs.declared.limits.TheConstants.{BYTES}
-use Rattle.pn_scan.specs.Open.{open_bytes}
+use Rattle.pn_utf8.specs.Open.{open_bytes}
 use Rattle.pn_scan.proofs.OrdinaryLemmas.{name_text, name_read}
 use Rattle.pn_scan.proofs.scanner.Scanner.read_name.Goals as goal
 

@@ -3,7 +3,7 @@ use Rattle.std.proofs.Common.{◌≡◌, ◌⊎◌, inl, inr, ℕ, ◌+◌, ◌*
 use Rattle.std.proofs.lemmas.Bool.{false≢true, and_parts, and_from, or_cases, or_left, or_right, cond-true, cond-false, ltb-true, lt-ltb, le-ltb, leb-true, le-leb, eqb-true, cases_eq, cases_lt, eq-eqb}
 use Rattle.std.proofs.lemmas.Bool.Decides.{nat_tests}
 use Rattle.pn_text.specs.Characters.{is_within, is_character, utf8_of, further}
-use Rattle.pn_scan.specs.Characters.{is_further, begin_three, begin_four, is_last_pair, is_whole, is_begun}
+use Rattle.pn_utf8.specs.Characters.{is_further, begin_three, begin_four, is_last_pair, is_whole, is_begun}
 
 -- the bytes of a character by its size
 

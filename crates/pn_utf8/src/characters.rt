@@ -2,12 +2,12 @@
 
 ghost use Rattle.std.specs.Prelude.{◌≡◌, ◌⊎◌, ◌≤◌, ◌∷◌, [], true, length, take};
 ghost use Rattle.std.specs.Option.{option_map};
-ghost use Rattle.pn_scan.specs.Characters.{is_further, begin_three, begin_four, is_last_pair, is_whole, character_behind, open_behind};
-ghost use Rattle.pn_scan.specs.Open.{open_bytes};
+ghost use Rattle.pn_utf8.specs.Characters.{is_further, begin_three, begin_four, is_last_pair, is_whole, character_behind, open_behind};
+ghost use Rattle.pn_utf8.specs.Open.{open_bytes};
 
 /// The bytes of a character that is not whole yet, if any.
 #[derive(Clone, Copy)]
-pub(crate) enum Open {
+pub enum Open {
     Nothing,
     One(u8),
     Two(u8, u8),
@@ -127,7 +127,7 @@ fn fourth(a: u8, b: u8, c: u8, d: u8) -> Option<Open>
 
 impl Open {
     /// What is open behind one more byte, or `None` where no document goes on so.
-    pub(crate) fn next(self, byte: u8) -> Option<Open>
+    pub fn next(self, byte: u8) -> Option<Open>
         ensures { option_map open_bytes result ≡ open_behind (open_bytes self) byte }
     {
         match self {
@@ -140,7 +140,7 @@ impl Open {
 }
 
 /// How many bytes the character at the front of a piece has; none where none stands there whole.
-pub(crate) fn character_front(piece: &[u8]) -> usize
+pub fn character_front(piece: &[u8]) -> usize
     ensures whole { (result ≡ 0) ⊎ (is_whole (take result piece.now) ≡ true) }
     ensures within { result ≤ length piece.now }
 {

@@ -2,10 +2,13 @@
 use Rattle.std.proofs.Common.{◌≡◌, ◌⊎◌, inl, inr, ℕ, ◌≤◌, ◌<◌, nat_le, Bool, true, false, cond, ◌&&◌, ◌||◌, ◌==◌, List, [], ◌∷◌, ◌++◌, Some, None, refl, sym, ap, ◌∙◌, subst, append_assoc, append-nil, arith}
 use Rattle.std.specs.List.{list_all, flat_map}
 use Rattle.std.proofs.lemmas.Bool.{false≢true, and_parts, and_from, or_cases, cases_eq, cases_lt, leb-true, false_from_ne_true}
-use Rattle.pn_text.specs.Characters.{is_within, is_character, utf8_of, is_text}
-use Rattle.pn_text.proofs.TextLemmas.{is_text-append, is_text-character, text_characters, characters_text}
-use Rattle.pn_scan.specs.Characters.{is_whole, is_begun, is_further, begin_three, begin_four, is_last_pair, character_behind, open_behind, AreOpen, Cut}
-use Rattle.pn_scan.proofs.CharacterLemmas.{begins_three, begins_four, within_from, lt_of, whole_is, whole_bytes, whole_front, begun_front, begun_not_whole}
+use Rattle.std.proofs.lemmas.Grind.{flat_map-append}
+use Rattle.std.proofs.lemmas.List.{append_cancel_left}
+use Rattle.std.proofs.lemmas.List.Folds.{list_all-append}
+use Rattle.pn_text.specs.Characters.{is_within, is_character, characters_of, utf8_of, is_text}
+use Rattle.pn_text.proofs.TextLemmas.{is_text-append, is_text-character, text_characters, characters_text, characters-append, all_characters, text_bytes}
+use Rattle.pn_utf8.specs.Characters.{is_whole, is_begun, is_further, begin_three, begin_four, is_last_pair, character_behind, open_behind, AreOpen, Cut}
+use Rattle.pn_utf8.proofs.CharacterLemmas.{begins_three, begins_four, within_from, lt_of, whole_is, whole_bytes, whole_front, begun_front, begun_not_whole}
 
 pub whole_text : (q : List ℕ) → is_whole q ≡ true → is_text q ≡ true
 whole_text q h = let w = whole_is q h in subst (λ l. is_text l ≡ true) w.bytes (is_text-character w.number w.is)
@@ -304,3 +307,17 @@ fill a (b ∷ c ∷ []) h =
     let k = and_parts (begin_four a b) (is_further c) h in
     record { more = 0x80 ∷ []; high = refl; is = and_from (begin_four a b) (is_further c && true) k.0 (and_from (is_further c) true k.1 refl) }
 fill a (b ∷ c ∷ d ∷ p) h = absurd (false≢true h)
+
+-- what stands behind a text, within a text, is one
+pub text_rest : (xs ys : List ℕ) → is_text xs ≡ true → is_text (xs ++ ys) ≡ true → is_text ys ≡ true
+text_rest xs ys h k =
+    let split = characters-append xs ys h in
+    let all : (list_all is_character (characters_of xs) && list_all is_character (characters_of ys)) ≡ true =
+    sym (ap (list_all is_character) split ∙ list_all-append is_character (characters_of xs) (characters_of ys)) ∙ all_characters (xs ++ ys) k in
+    let back : xs ++ flat_map utf8_of (characters_of ys) ≡ xs ++ ys =
+    ap (λ l. l ++ flat_map utf8_of (characters_of ys)) (sym (text_bytes xs h)) ∙ sym (flat_map-append utf8_of (characters_of xs) (characters_of ys)) ∙ ap (flat_map utf8_of) (sym split) ∙ text_bytes (xs ++ ys) k in
+    characters_text ys (record {
+      spelled = characters_of ys;
+      are_characters = (and_parts (list_all is_character (characters_of xs)) (list_all is_character (characters_of ys)) all).1;
+      bytes = append_cancel_left xs (flat_map utf8_of (characters_of ys)) ys back;
+    })
