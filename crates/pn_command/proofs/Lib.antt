@@ -1,10 +1,4 @@
-pub mod BlindLemmas
-pub mod ShapeBlindLemmas
-pub mod ReadBlindLemmas
-pub mod PartBlindLemmas
-pub mod LinkedLemmas
 pub mod OutputLemmas
-pub mod WrittenLemmas
 pub mod BreakLemmas
 pub mod AnswerLemmas
 pub mod StatusLemmas

@@ -4,5 +4,4 @@ pub mod Outputs
 pub mod Verdict
 pub mod Answer
 pub mod Reading
-pub mod Written
 pub mod ModesOfNets

@@ -3,6 +3,7 @@ use Rattle.std.proofs.Common.{◌≡◌, ◌==◌, ◌&&◌, ◌<◌, ℕ, suc, 
 use Rattle.std.specs.List.{AllZip, cons_option, filter, filter_map, flat_map, slice_get}
 use Rattle.std.specs.Option.{option_and_then, option_map, option_to_list}
 use Rattle.std.proofs.lemmas.Option.{slice_get-map}
+use Rattle.std.proofs.lemmas.Simd.{map-map}
 use Rattle.pn_bag.specs.Counts.{Every}
 use Rattle.pn_carriers.specs.Members.{IsMember}
 use Rattle.pn_checks.specs.Initial.{IsFirstBy, IsInitial, IsMarked}
@@ -38,7 +39,7 @@ use Rattle.pn_terms.proofs.OffsetLemmas.{variables_aside}
 use Rattle.pn_terms.specs.Variables.{variables_in_term}
 use Rattle.pn_values.specs.declared.sort.Sort.{Sort}
 use Rattle.pn_values.specs.declared.value.Value.{Value}
-use Rattle.pn_flat_laws.specs.AlikeNets.{AreAlikeNets, IsAlikeArc}
+use Rattle.pn_flat_laws.specs.AlikeNets.{AreAlikeButMarked, AreAlikeNets, IsAlikeArc, unmarked}
 
 -- ---- alike the other way
 
@@ -53,6 +54,22 @@ arcs_back (a ∷ arcs_one) (b ∷ arcs_two) all = (arc_back a b all.0, arcs_back
 
 pub alike_back : (f g : Flat) → AreAlikeNets f g → AreAlikeNets g f
 alike_back f g is = record { declarations = sym is.declarations; places = sym is.places; transitions = sym is.transitions; arcs = arcs_back f.arcs g.arcs is.arcs }
+
+pub but_marked_back : (f g : Flat) → AreAlikeButMarked f g → AreAlikeButMarked g f
+but_marked_back f g is = record { declarations = sym is.declarations; places = sym is.places; transitions = sym is.transitions; arcs = arcs_back f.arcs g.arcs is.arcs }
+
+unmark : Place → Place
+unmark p = record p { marking = None; hl_marking = None }
+
+unmarked_twice : (ps : List Place) → map unmark (map place_without_offsets ps) ≡ map unmarked ps
+unfolding unmark
+unmarked_twice ps = map-map unmark place_without_offsets ps
+
+pub places_unmarked : (ps qs : List Place) → map place_without_offsets ps ≡ map place_without_offsets qs → map unmarked ps ≡ map unmarked qs
+places_unmarked ps qs same = sym (unmarked_twice ps) ∙ ap (map unmark) same ∙ unmarked_twice qs
+
+pub but_marked : (f g : Flat) → AreAlikeNets f g → AreAlikeButMarked f g
+but_marked f g is = record { declarations = is.declarations; places = places_unmarked f.places g.places is.places; transitions = is.transitions; arcs = is.arcs }
 
 -- ---- labels
 
@@ -199,7 +216,7 @@ same_length {X} clear (x ∷ xs) (y ∷ ys) same = let rest : map clear xs ≡ m
 
 -- ---- two nets
 
-module _ (f g : Flat) (alike : AreAlikeNets f g) where
+module _ (f g : Flat) (alike : AreAlikeButMarked f g) where
   conditions : (t : ℕ) → option_map term_without_offsets (condition_at f t) ≡ option_map term_without_offsets (condition_at g t)
   conditions t = condition_same (slice_get f.transitions t) (slice_get g.transitions t)
       (sym (slice_get-map transition_without_offsets f.transitions t) ∙ ap (λ ts. slice_get ts t) alike.transitions ∙ slice_get-map transition_without_offsets g.transitions t)
@@ -215,9 +232,10 @@ module _ (f g : Flat) (alike : AreAlikeNets f g) where
       record { ascending = are.ascending; each = λ v. subst (λ all. Rattle.std.specs.Prelude.◌↔◌ (Rattle.std.specs.List.Contains vars v) (Rattle.std.specs.List.Contains all v)) same (are.each v) }
 
   token_kept : (k : Token) → IsTokenOf f k → IsTokenOf g k
+  unfolding unmark
   token_kept k (sort, (p, at, of_place), member) =
-      let found = alike_get place_without_offsets f.places g.places k.place p alike.places at in
-      (sort, (found.0, found.1, place_sort_alike f.declarations g.declarations alike.declarations p found.0 found.2 sort of_place), subst (λ widths. IsMember widths k.value sort) (widths_same f.declarations g.declarations alike.declarations) member)
+      let found = alike_get unmarked f.places g.places k.place p alike.places at in
+      (sort, (found.0, found.1, place_sort_alike f.declarations g.declarations alike.declarations (unmark p) (unmark found.0) found.2 sort of_place), subst (λ widths. IsMember widths k.value sort) (widths_same f.declarations g.declarations alike.declarations) member)
 
   moved_kept : (t : ℕ) (into : Bool) (vars : List ℕ) (given : List Value) (m : List (Token × ℕ)) → IsMoved f t into vars given m → IsMoved g t into vars given m
   moved_kept t into vars given m is =
@@ -275,8 +293,9 @@ module _ (f g : Flat) (alike : AreAlikeNets f g) where
     },
   )
 
-  -- ---- the initial marking
+-- ---- the initial marking
 
+module _ (f g : Flat) (alike : AreAlikeNets f g) where
   first_kept : (o p : Option Term) (n k : Option ℕ) (bag : List (Value × ℕ)) → option_map term_without_offsets o ≡ option_map term_without_offsets p → n ≡ k
       → IsFirstBy (SaysMultiset f.declarations) o n bag → IsFirstBy (SaysMultiset g.declarations) p k bag
   first_kept None None n k bag same number h = subst (λ w. IsFirstBy (SaysMultiset g.declarations) None w bag) number (plain n bag h)

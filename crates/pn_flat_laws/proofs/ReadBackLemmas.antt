@@ -9,7 +9,7 @@ use Rattle.pn_checks.proofs.UniqueLemmas.{HasSound}
 use Rattle.pn_facts.proofs.Lists.{got}
 use Rattle.pn_facts.proofs.Contained.{contains_first, contains_next, contains_nil}
 use Rattle.pn_net.specs.Ends.{End, ReachesEnd, at_place, at_transition, by_reference, id_at}
-use Rattle.pn_net.specs.Flattening.{IsRewired, arc_of_flat, net_of_flat}
+use Rattle.pn_net.specs.Flattening.{IsFlattened, IsRewired, arc_of_flat, net_of_flat}
 use Rattle.pn_net.specs.Links.{IsReference}
 use Rattle.pn_net.specs.Objects.{net_arcs, net_place_references, net_places, net_transition_references, net_transitions}
 use Rattle.pn_net.specs.Typed.{IsWired}
@@ -74,11 +74,9 @@ module _ (f g : Flat) (w : Net) (no_places : net_place_references w ≡ []) (no_
 
 -- ---- documents
 
-pub read_back : (tree other : Element) (f g : Flat) → IsLinked tree f → IsLinked other g → IsSameNet (net_of other) (net_of_flat f) → AreAlikeNets f g
-read_back tree other f g from to same =
-    let n = net_of tree in
+pub read_back_from : (n : Net) (other : Element) (f g : Flat) → IsFlattened n (net_of_flat f) → ((a : FlatArc) → Contains f.arcs a → IsWired f a) → IsLinked other g → IsSameNet (net_of other) (net_of_flat f) → AreAlikeNets f g
+read_back_from n other f g p wired to same =
     let w = net_of other in
-    let p = from.is_flat in
     let q = to.is_flat in
     let declared : map declaration_without_offsets f.declarations ≡ map declaration_without_offsets g.declarations
     = ap (map declaration_without_offsets) (flat_declarations n f p) ∙ sym (declared_alike n (net_of_flat f) w p same) ∙ ap (map declaration_without_offsets) (sym (flat_declarations w g q)) in
@@ -91,7 +89,10 @@ read_back tree other f g from to same =
       places = places;
       transitions = transitions;
       arcs = arcs_read f g w (no_place_references n (net_of_flat f) w p same) (no_transition_references n (net_of_flat f) w p same) to.sound.links (flat_places_are w g q) (flat_transitions_are w g q) places transitions
-          f.arcs (net_arcs w) g.arcs from.wired to.wired
+          f.arcs (net_arcs w) g.arcs wired to.wired
           (arcs_alike n (net_of_flat f) w p same ∙ ap (map arc_without_offsets) (flat_arcs_are n f p))
           (subst (AllZip (IsRewired w) (net_arcs w)) (flat_arcs_are w g q) q.rewired);
     }
+
+pub read_back : (tree other : Element) (f g : Flat) → IsLinked tree f → IsLinked other g → IsSameNet (net_of other) (net_of_flat f) → AreAlikeNets f g
+read_back tree other f g from to same = read_back_from (net_of tree) other f g from.is_flat from.wired to same

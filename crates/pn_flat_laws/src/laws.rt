@@ -4,7 +4,7 @@
 ghost use Rattle.std.specs.Prelude.{◌≡◌, ◌↔◌, ℕ, List};
 ghost use Rattle.pn_checks.specs.Initial.{IsInitial};
 ghost use Rattle.pn_checks.specs.Linked.{IsLinked};
-ghost use Rattle.pn_flat_laws.specs.AlikeNets.{AreAlikeNets};
+ghost use Rattle.pn_flat_laws.specs.AlikeNets.{AreAlikeButMarked, AreAlikeNets};
 ghost use Rattle.pn_marking.specs.Modes.{IsMode, IsPost, IsPre};
 ghost use Rattle.pn_marking.specs.Steps.{IsEnabled, IsStep};
 ghost use Rattle.pn_net.specs.Flattening.{net_of_flat};
@@ -27,6 +27,13 @@ pub fn alike_nets_have_the_same_steps()
     ensures enabled { (f g : Flat) → AreAlikeNets f g → (marking : List (Token × ℕ)) (modes : List (Mode × ℕ)) → IsEnabled f marking modes ↔ IsEnabled g marking modes }
     ensures steps { (f g : Flat) → AreAlikeNets f g → (old new : List (Token × ℕ)) (modes : List (Mode × ℕ)) → IsStep f old modes new ↔ IsStep g old modes new }
     ensures initial { (f g : Flat) → AreAlikeNets f g → (marking : List (Token × ℕ)) → IsInitial f marking ↔ IsInitial g marking }
+{}
+
+/// Which initial markings places have makes no difference to modes and steps.
+pub fn initial_markings_move_nothing()
+    ensures modes { (f g : Flat) → AreAlikeButMarked f g → (m : Mode) → IsMode f m ↔ IsMode g m }
+    ensures enabled { (f g : Flat) → AreAlikeButMarked f g → (marking : List (Token × ℕ)) (modes : List (Mode × ℕ)) → IsEnabled f marking modes ↔ IsEnabled g marking modes }
+    ensures steps { (f g : Flat) → AreAlikeButMarked f g → (old new : List (Token × ℕ)) (modes : List (Mode × ℕ)) → IsStep f old modes new ↔ IsStep g old modes new }
 {}
 
 /// Where a document's net is the same net as a flat net, that of another document, its own flat net

@@ -1,5 +1,5 @@
 -- The ground term of a value has that value, and the kin of its sort.
-use Rattle.std.proofs.Common.{◌≡◌, ◌⊎◌, inl, inr, ℕ, suc, ℤ, Bool, true, false, ◌&&◌, nat_le, nat_lt, List, [], ◌∷◌, length, map, Option, None, Some, IsSome, cond, pos, refl, sym, ap, ◌∙◌, subst, arith}
+use Rattle.std.proofs.Common.{◌≡◌, ◌⊎◌, inl, inr, ℕ, suc, ℤ, Bool, true, ◌&&◌, nat_le, nat_lt, List, [], ◌∷◌, length, map, Option, None, Some, IsSome, cond, pos, refl, sym, ap, ◌∙◌, subst, arith}
 use Rattle.std.specs.List.{Contains, list_all}
 use Rattle.std.specs.Option.{option_and_then, unwrap_or}
 use Rattle.std.proofs.lemmas.Bool.{false≢true}
@@ -38,7 +38,7 @@ use Rattle.pn_terms.proofs.TermLemmas.{out_apply, out_constant, out_empty_list, 
 use Rattle.pn_terms.specs.Rows.{Fits, Suit, at_most, basis_of, first_of, given_by, takes}
 use Rattle.pn_terms.specs.Sorts.{Gives, HasSort, HaveSorts, number_sort}
 use Rattle.pn_terms.specs.Sorts as have
-use Rattle.pn_terms.specs.Terms.{Layer, layer_of, parts_in, parts_of}
+use Rattle.pn_terms.specs.Terms.{Layer, layer_of, parts_in}
 use Rattle.pn_terms.specs.declared.term_sort.TermSort.{TermSort}
 use Rattle.pn_terms.specs.declared.term_sort.TermSort.TheVariants as terms
 use Rattle.pn_values.specs.Kin.{kin_of, kin_step}
@@ -52,7 +52,7 @@ use Rattle.pn_values.specs.declared.value.Value.{Value}
 use Rattle.pn_values.specs.declared.value.Value.TheOpen as value_layer
 use Rattle.pn_values.specs.declared.value.Value.TheVariants as values
 use Rattle.pn_values.specs.declared.value.Value.TheVariants.{rolls-Text, rolls-List}
-use Rattle.pn_values.specs.declared.value.Value.TheViews.{out-Value, roll-Value, out-roll-Value, roll-out-Value}
+use Rattle.pn_values.specs.declared.value.Value.TheViews.{out-Value, roll-Value, roll-out-Value}
 use Rattle.pn_marked.proofs.WritingLemmas.{written_resolves, writing_at}
 use Rattle.pn_marked.specs.Ground.{IsTermOf, Writing, applied, constant_id, ground_term, is_sound, is_sound_layer, parts_of_tuple, sort_written, term_of_list, term_of_node, terms_of_parts, writing_layer, writing_of}
 

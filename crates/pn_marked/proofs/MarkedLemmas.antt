@@ -1,12 +1,11 @@
 -- The places that are made for a marking.
-use Rattle.std.proofs.Common.{◌≡◌, ◌<◌, ◌≤◌, ◌+◌, ◌==◌, ◌⊎◌, inl, inr, ℕ, zero, suc, Bool, true, false, cond, List, [], ◌∷◌, ◌++◌, length, get_or, map, Option, None, Some, refl, sym, ap, ◌∙◌, subst, arith}
+use Rattle.std.proofs.Common.{◌≡◌, ◌<◌, ◌+◌, ◌==◌, ◌⊎◌, inl, inr, ℕ, zero, suc, Bool, true, false, cond, List, [], ◌∷◌, ◌++◌, length, get_or, map, Option, None, Some, refl, sym, ap, ◌∙◌, subst, arith}
 use Rattle.std.specs.List.{slice_get}
 use Rattle.std.specs.Option.{option_map}
 use Rattle.std.proofs.lemmas.Bool.{false≢true}
 use Rattle.std.proofs.lemmas.Bool.Decides.{nat_tests}
 use Rattle.std.proofs.lemmas.List.{append-nil, append_assoc}
 use Rattle.pn_bag.specs.Counts.{Every}
-use Rattle.pn_bag.specs.declared.TheConstants.{MAX_COUNT}
 use Rattle.pn_carriers.specs.Members.{IsMember}
 use Rattle.pn_checks.proofs.ValueLemmas.{place_sort_once}
 use Rattle.std.proofs.lemmas.Option.{slice_get-get_or}
@@ -31,7 +30,7 @@ use Rattle.pn_values.specs.declared.sort.Sort.TheOpen as layer
 use Rattle.pn_values.specs.declared.sort.Sort.TheVariants as sorts
 use Rattle.pn_values.specs.declared.value.Value.{Value}
 use Rattle.pn_marked.specs.Gathering.{AreMadeFor, AreTermsBefore, AreTermsOn, IsGrownAt, IsPlaceWith}
-use Rattle.pn_marking.specs.Totals.{AreTokensOf, IsTokenOf}
+use Rattle.pn_marking.specs.Totals.{IsTokenOf}
 use Rattle.pn_marked.specs.Marked.{AreMarkedPlaces, IsMarkedPlace, label_of, so_often, sum_term, values_on}
 use Rattle.pn_marked.proofs.WritingLemmas.{within_list}
 
@@ -93,13 +92,13 @@ token_member f k s (t, of_place, member) own = subst (IsMember (widths_of f.decl
 -- ---- the terms on each place
 
 -- the values on a place, with those of one more token in front
-values_here : (k : Token) (n : ℕ) (left : List (Token × ℕ)) (i : ℕ) → i ≡ k.place → values_on ((k, n) ∷ left) i ≡ (k.value, n) ∷ values_on left i
+pub values_here : (k : Token) (n : ℕ) (left : List (Token × ℕ)) (i : ℕ) → i ≡ k.place → values_on ((k, n) ∷ left) i ≡ (k.value, n) ∷ values_on left i
 values_here k n left i is = ap (λ b. cond b ((k.value, n) ∷ values_on left i) (values_on left i)) test
   where
     test : (k.place == i) ≡ true
     test = grind (arith, nat_tests)
 
-values_elsewhere : (k : Token) (n : ℕ) (left : List (Token × ℕ)) (i : ℕ) → (i ≡ k.place → ⊥) → values_on ((k, n) ∷ left) i ≡ values_on left i
+pub values_elsewhere : (k : Token) (n : ℕ) (left : List (Token × ℕ)) (i : ℕ) → (i ≡ k.place → ⊥) → values_on ((k, n) ∷ left) i ≡ values_on left i
 values_elsewhere k n left i not = by (k.place == i) refl
   where
     by : (b : Bool) → (k.place == i) ≡ b → values_on ((k, n) ∷ left) i ≡ values_on left i
@@ -138,19 +137,22 @@ terms_next f m before left k n term old new whole terms is_term grown = record {
 
 -- ---- the places
 
-pub coloured_are_marked : (f : Flat) (m : List (Token × ℕ)) (terms : List (List Term)) (places all : List Place) → (f.kind ≡ kinds.PtNet → ⊥) → AreTermsOn f m terms → places ≡ f.places → AreMadeFor (IsPlaceWith terms) places all (length places) → AreMarkedPlaces f m all
-coloured_are_marked f m terms places all kind on same made = record {
-  size = made.size ∙ ap length same;
+pub coloured_are_marked : (f : Flat) (m : List (Token × ℕ)) (terms : List (List Term)) (all : List Place) → (f.kind ≡ kinds.PtNet → ⊥) → AreTermsOn f m terms → AreMadeFor (IsPlaceWith f.declarations terms) f.places all (length f.places) → AreMarkedPlaces f m all
+coloured_are_marked f m terms all kind on made = record {
+  size = made.size;
   each = λ i p q is_p is_q. by f.kind refl i p q is_p is_q;
 }
   where
-    made_here : (i : ℕ) (p q : Place) → slice_get f.places i ≡ Some p → slice_get all i ≡ Some q → (sort : Sort) → IsPlaceSort f.declarations p sort
-        → q ≡ record p { marking = None; hl_marking = option_map label_of (sum_term (map (so_often f.declarations sort) (values_on m i))) }
-    made_here i p q is_p is_q sort of_place =
+    made_here : (i : ℕ) (p q : Place) → slice_get f.places i ≡ Some p → slice_get all i ≡ Some q
+        → (sort : Sort) × IsPlaceSort f.declarations p sort × (q ≡ record p { marking = None; hl_marking = option_map label_of (sum_term (map (so_often f.declarations sort) (values_on m i))) })
+    made_here i p q is_p is_q =
         let below : i < length terms = subst (λ n. i < n) (sym on.size) (within_list f.places i p is_p) in
         let es = got terms i below in
-        made.each i p q (ap (λ l. slice_get l i) same ∙ is_p) is_q es.0 es.1
-        ∙ ap (λ l. record p { marking = None; hl_marking = option_map label_of (sum_term l) }) (sym (append-nil es.0) ∙ on.each i es.0 sort es.1 (p, is_p, of_place))
+        let (sort, of_place, is) = made.each i p q is_p is_q in (
+          sort,
+          of_place,
+          is es.0 es.1 ∙ ap (λ l. record p { marking = None; hl_marking = option_map label_of (sum_term l) }) (sym (append-nil es.0) ∙ on.each i es.0 sort es.1 (p, is_p, of_place)),
+        )
 
     by : (k : Kind) → f.kind ≡ k → (i : ℕ) (p q : Place) → slice_get f.places i ≡ Some p → slice_get all i ≡ Some q → IsMarkedPlace k f.declarations m i p q
     by kinds.PtNet is = absurd (kind is)

@@ -6,9 +6,11 @@ use Rattle.pn_objects.specs.declared.object.Place.{Place}
 use Rattle.pn_bag.specs.Counts.{count_of}
 use Rattle.pn_checks.specs.Initial.{token}
 use Rattle.pn_net.specs.Orders.{token_cmp}
+use Rattle.pn_net.specs.Labels.{IsPlaceSort}
 use Rattle.pn_net.specs.Typed.{IsSortOfPlace}
 use Rattle.pn_net.specs.declared.flat.Flat.{Flat}
 use Rattle.pn_net.specs.declared.token.Token.{Token}
+use Rattle.pn_syntax.specs.declared.declaration.Declaration.{Declaration}
 use Rattle.pn_syntax.specs.declared.term.Term.{Term}
 use Rattle.pn_values.specs.declared.sort.Sort.{Sort}
 use Rattle.pn_values.specs.declared.value.Value.TheVariants as values
@@ -35,9 +37,9 @@ pub record AreMadeFor {A B : Type 0} (IsRight : ℕ → A → B → Type 0) (xs 
   pub within : count ≤ length xs
   pub each : (i : ℕ) (x : A) (y : B) → slice_get xs i ≡ Some x → slice_get ys i ≡ Some y → IsRight i x y
 
--- the second is the first place with the sum of the terms at its number
-abbrev pub IsPlaceWith : List (List Term) → ℕ → Place → Place → Type 0
-IsPlaceWith terms i p q = (es : List Term) → slice_get terms i ≡ Some es → q ≡ record p { marking = None; hl_marking = option_map label_of (sum_term es) }
+-- the second is the first place, which has a sort, with the sum of the terms at its number
+abbrev pub IsPlaceWith : List Declaration → List (List Term) → ℕ → Place → Place → Type 0
+IsPlaceWith items terms i p q = (sort : Sort) × IsPlaceSort items p sort × ((es : List Term) → slice_get terms i ≡ Some es → q ≡ record p { marking = None; hl_marking = option_map label_of (sum_term es) })
 
 -- so many lists, with no term in any
 pub record AreNone (count : ℕ) (terms : List (List Term)) : Type 0 where

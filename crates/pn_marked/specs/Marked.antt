@@ -2,14 +2,11 @@
 use Rattle.std.specs.Prelude.{◌≡◌, ◌==◌, ℕ, zero, suc, pos, List, [], ◌∷◌, length, map, Option, None, Some, if◌then◌else◌}
 use Rattle.std.specs.List.{slice_get}
 use Rattle.std.specs.Option.{option_map}
-use Rattle.pn_bag.specs.Counts.{Every, count_of}
-use Rattle.pn_carriers.specs.Members.{IsMember}
+use Rattle.pn_bag.specs.Counts.{count_of}
 use Rattle.pn_checks.specs.Initial.{token}
-use Rattle.pn_names.specs.Names.{widths_of}
 use Rattle.pn_net.specs.Flattening.{arc_of_flat, net_of_flat, page_of_objects}
 use Rattle.pn_net.specs.Labels.{IsPlaceSort}
 use Rattle.pn_net.specs.Orders.{token_cmp}
-use Rattle.pn_net.specs.Typed.{IsSortOfPlace}
 use Rattle.pn_net.specs.declared.flat.Flat.{Flat}
 use Rattle.pn_net.specs.declared.token.Token.{Token}
 use Rattle.pn_objects.specs.declared.label.Label.{Label}
@@ -58,8 +55,8 @@ number_label (suc n) = Some (label_of (suc n))
 -- the second is the first place, of this number, with what stands on it as its initial marking: in a place/transition net their number, else their term
 abbrev pub IsMarkedPlace : Kind → List Declaration → List (Token × ℕ) → ℕ → Place → Place → Type 0
 IsMarkedPlace kinds.PtNet items m i p q = q ≡ record p { marking = number_label (count_of token_cmp m (token i values.Dot)); hl_marking = None }
-IsMarkedPlace kinds.Symmetric items m i p q = (sort : Sort) → IsPlaceSort items p sort → q ≡ record p { marking = None; hl_marking = option_map label_of (bag_term items sort (values_on m i)) }
-IsMarkedPlace kinds.HighLevel items m i p q = (sort : Sort) → IsPlaceSort items p sort → q ≡ record p { marking = None; hl_marking = option_map label_of (bag_term items sort (values_on m i)) }
+IsMarkedPlace kinds.Symmetric items m i p q = (sort : Sort) × IsPlaceSort items p sort × (q ≡ record p { marking = None; hl_marking = option_map label_of (bag_term items sort (values_on m i)) })
+IsMarkedPlace kinds.HighLevel items m i p q = (sort : Sort) × IsPlaceSort items p sort × (q ≡ record p { marking = None; hl_marking = option_map label_of (bag_term items sort (values_on m i)) })
 
 -- so are these the places of the flat net, one by one
 pub record AreMarkedPlaces (f : Flat) (m : List (Token × ℕ)) (places : List Place) : Type 0 where

@@ -135,23 +135,39 @@ fn coloured_places(
     ensures { IfOk result (AreMarkedPlaces net.now marking.now) }
 {
     let terms = terms_on(alloc, net, marking)?;
-    places_with(alloc, net.flat().places.as_slice(), &terms)
+    places_with(alloc, net, &terms)
 }
 
-/// Places with these terms.
+/// The places of the net with these terms.
 fn places_with(
     alloc: Global,
-    places: &[Place],
+    net: &Typed,
     terms: &[Items<Term>],
 ) -> Result<Items<Place>, AllocError>
-    requires { length terms.now ≡ length places.now }
-    ensures { IfOk result (λ all. AreMadeFor (IsPlaceWith terms.now) places.now all (length places.now)) }
+    requires { length terms.now ≡ length net.now.places }
+    ensures { IfOk result (λ all. AreMadeFor (IsPlaceWith net.now.declarations terms.now) net.now.places all (length net.now.places)) }
 {
+    let places = net.flat().places.as_slice();
     let mut all = Items::new(alloc);
     for i in 0..places.len() {
+        has_sort(net, i)?;
         all.push(coloured_place(alloc, &places[i], &terms[i])?)?;
     }
     Ok(all)
+}
+
+/// A place has a sort.
+fn has_sort(net: &Typed, place: usize) -> Result<(), AllocError>
+    requires { place < length net.now.places }
+    ensures { OnOk result ((sort : Sort) × IsSortOfPlace net.now place sort) }
+{
+    match u32::try_from(place) {
+        Ok(place) => {
+            let _sort = net.place_sort(place);
+            Ok(())
+        }
+        Err(_) => Err(AllocError),
+    }
 }
 
 /// A place with this sum of terms.

@@ -1,8 +1,9 @@
 //! Mode words, read on worked nets.
 
 use pn_checks::Checked;
-use pn_mode_text::{Counted, ModeTextFault, read_mode};
+use pn_mode_text::{Counted, ModeTextFault, put_mode, read_mode};
 use pn_net_samples::{net_with, value_of};
+use pn_outside::MemorySink;
 use std::alloc::Global;
 use std::process::Abort;
 use std::test::Fail;
@@ -161,4 +162,48 @@ t[a=5,b=\"\",c=[],d=(true,-2)|bad 27";
 fn values_of_many_sorts_are_broken(rt: HostRuntime) -> Result<(), Fail> {
     let net = net_with(rt.alloc(), "highlevelnet", SORTS, FOUR);
     reads(&rt, rt.alloc(), net, FOUR_ROWS)
+}
+
+/// What is put of the mode that a word is read as.
+fn put_again(
+    alloc: Global,
+    net: &Checked,
+    word: &str,
+    sink: &mut MemorySink,
+) -> Result<(), ModeTextFault> {
+    let counted = read_mode(alloc, net.typed(), word)?;
+    let _done = put_mode(net.typed(), &counted.mode, sink);
+    Ok(())
+}
+
+fn is_put_again(alloc: Global, net: &Checked, word: &str) -> Result<bool, ModeTextFault> {
+    let mut sink = MemorySink::new(alloc, word.len(), Vec::new(alloc))?;
+    put_again(alloc, net, word, &mut sink)?;
+    Ok(sink.bytes() == word.as_bytes())
+}
+
+fn all_put_again(rt: &impl Abort, alloc: Global, net: &Checked, rows: &str) {
+    for row in rows.lines() {
+        assert!(rt; is_put_again(alloc, net, row).unwrap_or(false));
+    }
+}
+
+fn puts(rt: &impl Abort, alloc: Global, net: Option<Checked>, rows: &str) -> Result<(), Fail> {
+    match net {
+        Some(net) => {
+            all_put_again(rt, alloc, &net, rows);
+            Ok(())
+        }
+        None => Err(Fail::from("a fault")),
+    }
+}
+
+const FOUR_WORDS: &str = "t[a=0,b=\"\",c=[],d=(true,-2)]
+t[a=-9223372036854775808,b=\"a%20%25-\",c=[-1],d=(false,0)]
+t[a=9223372036854775807,b=\"grün%0A\",c=[1,2,30],d=(true,12)]";
+
+#[test]
+fn words_are_put_as_they_are_read(rt: HostRuntime) -> Result<(), Fail> {
+    let net = net_with(rt.alloc(), "highlevelnet", SORTS, FOUR);
+    puts(&rt, rt.alloc(), net, FOUR_WORDS)
 }

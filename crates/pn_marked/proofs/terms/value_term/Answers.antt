@@ -1,5 +1,4 @@
 use Rattle.pn_facts.proofs.Results.{if_ok}
-use Rattle.pn_names.specs.Names.{widths_of}
 use Rattle.pn_values.specs.Kin.{kin_of}
 use Rattle.pn_marked.proofs.GroundLemmas.{ground_is}
 use Rattle.pn_marked.specs.Ground.{IsTermOf}

@@ -31,7 +31,7 @@ use Rattle.pn_syntax.specs.declared.term.TermNode.TheViews.{roll-TermNode}
 use Rattle.pn_syntax.specs.declared.term.TermNode.TheFolds.{fold_out-Term}
 use Rattle.pn_tree.specs.Depth.{depth_of}
 use Rattle.pn_tree.specs.declared.element.Element.{Element}
-use Rattle.pn_command.proofs.BlindLemmas.{children_bare, cond_each, first_child_bare, map_each, name_bare, or_else_each}
+use Rattle.pn_documents.proofs.BlindLemmas.{children_bare, cond_each, first_child_bare, map_each, name_bare, or_else_each}
 
 -- ---- sorts
 

@@ -29,7 +29,7 @@ use Rattle.pn_tree.specs.declared.element.Child.{Child}
 use Rattle.pn_tree.specs.declared.element.Child.TheOpen as layer
 use Rattle.pn_tree.specs.declared.element.Child.TheViews.{out-Child}
 use Rattle.pn_tree.specs.declared.element.Element.{Element}
-use Rattle.pn_command.proofs.BlindLemmas.{bare_layer, cond_each, out_bare, texts_bare}
+use Rattle.pn_documents.proofs.BlindLemmas.{bare_layer, cond_each, out_bare, texts_bare}
 
 -- a fault at the offset 0
 abbrev pub clear : Fault → Fault

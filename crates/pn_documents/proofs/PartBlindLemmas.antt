@@ -26,8 +26,8 @@ use Rattle.pn_syntax.specs.declared.declaration.SortBody.TheVariants as bodies
 use Rattle.pn_tree.specs.Depth.{depth_of}
 use Rattle.pn_tree.specs.Elements.{attr_value}
 use Rattle.pn_tree.specs.declared.element.Element.{Element}
-use Rattle.pn_command.proofs.BlindLemmas.{attribute_bare, child_named_bare, children_bare, children_named_bare, cond_each, filter_bare, find_bare, first_child_bare, map_each, name_bare, option_each, or_else_each, own_text_bare}
-use Rattle.pn_command.proofs.ReadBlindLemmas.{end_bare, no_sort_bare, number_bare, sort_in_bare, sort_read_bare, start_bare, term_read_bare}
+use Rattle.pn_documents.proofs.BlindLemmas.{attribute_bare, child_named_bare, children_bare, children_named_bare, cond_each, filter_bare, find_bare, first_child_bare, map_each, name_bare, option_each, or_else_each, own_text_bare}
+use Rattle.pn_documents.proofs.ReadBlindLemmas.{end_bare, no_sort_bare, number_bare, sort_in_bare, sort_read_bare, start_bare, term_read_bare}
 
 -- ---- declarations
 

@@ -1,5 +1,0 @@
-use Rattle.pn_command.proofs.WrittenLemmas.{written}
-use Rattle.pn_command.proofs.laws.what_is_written_spells_the_flat_net.Goals as goal
-
-pub returns : goal.returns
-returns c = written
