@@ -1,0 +1,7 @@
+//! Steps by the words that tell their modes (ISO/IEC 15909-1, transition rule): to which marking the
+//! modes of some words lead, all at once, from the initial marking.
+#![tactic(auto)]
+
+mod stepping;
+
+pub use stepping::{StepFault, step};
