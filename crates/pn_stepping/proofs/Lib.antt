@@ -1,1 +1,3 @@
 pub mod StepLemmas
+pub mod OneStepLemmas
+pub mod RefusalLemmas

@@ -64,7 +64,8 @@ told_none f = record { told = tt; only = λ other all. none other all }
     none [] all = refl
     none (x ∷ other) all = absurd all
 
-made_of : (f : Flat) (words : List (List ℕ)) (entries : List (Mode × ℕ)) → AllZip (TellsEntry f) words entries → AllByRecursion (IsMadeOf f) words
+-- words that are told tell something
+pub made_of : (f : Flat) (words : List (List ℕ)) (entries : List (Mode × ℕ)) → AllZip (TellsEntry f) words entries → AllByRecursion (IsMadeOf f) words
 made_of f [] [] zip = tt
 made_of f [] (e ∷ entries) zip = absurd zip
 made_of f (w ∷ words) [] zip = absurd zip
@@ -80,14 +81,6 @@ untold_there f words word place (faults.NotAMode there) entries at told is = abs
 untold_there f words word place (faults.ModeTooLarge mode) entries at told is = absurd is
 untold_there f words word place (faults.NotEnabled token need has) entries at told is = absurd is
 untold_there f words word place (faults.TokenTooLarge token) entries at told is = absurd is
-
-pub untold_unfired : (f : Flat) (words : List (List ℕ)) (fault : StepFault) → IsUntold f words fault → IsUnfired f words fault
-untold_unfired f words (faults.Memory e) is = tt
-untold_unfired f words (faults.BadMode place length) is = is
-untold_unfired f words (faults.NotAMode place) is = absurd is
-untold_unfired f words (faults.ModeTooLarge mode) is = absurd is
-untold_unfired f words (faults.NotEnabled token need has) is = absurd is
-untold_unfired f words (faults.TokenTooLarge token) is = absurd is
 
 -- ---- sums
 
@@ -133,7 +126,8 @@ module _ (f : Flat) where
       by Less low = behind (none_here Less low refl)
       by Greater high = behind (none_here Greater high refl)
 
-  some_counted : (entries : List (Mode × ℕ)) → AreModes f entries → (k : Mode) → 0 < count_of mode_cmp entries k → IsMode f k
+  -- a mode that has a count among modes is one
+  pub some_counted : (entries : List (Mode × ℕ)) → AreModes f entries → (k : Mode) → 0 < count_of mode_cmp entries k → IsMode f k
   some_counted [] modes k positive = absurd (omega (arith, positive))
   some_counted (e ∷ rest) modes k positive = counted e k (count_of mode_cmp rest k) modes.0 positive (some_counted rest modes.1 k)
 
@@ -168,27 +162,3 @@ no_sum_there entries x place e (faults.ModeTooLarge mode) at same (own, over, be
 }
 no_sum_there entries x place e (faults.NotEnabled token need has) at same is = absurd is
 no_sum_there entries x place e (faults.TokenTooLarge token) at same is = absurd is
-
-pub not_all_unfit : (f : Flat) (entries : List (Mode × ℕ)) (fault : StepFault) → IsNotAllModes f entries fault → IsUnfit f entries fault
-not_all_unfit f entries (faults.Memory e) is = tt
-not_all_unfit f entries (faults.BadMode place length) is = absurd is
-not_all_unfit f entries (faults.NotAMode place) is = is
-not_all_unfit f entries (faults.ModeTooLarge mode) is = absurd is
-not_all_unfit f entries (faults.NotEnabled token need has) is = absurd is
-not_all_unfit f entries (faults.TokenTooLarge token) is = absurd is
-
-pub no_sum_unfit : (f : Flat) (entries : List (Mode × ℕ)) (fault : StepFault) → AreModes f entries → HasNoSum entries fault → IsUnfit f entries fault
-no_sum_unfit f entries (faults.Memory e) modes is = tt
-no_sum_unfit f entries (faults.BadMode place length) modes is = absurd is
-no_sum_unfit f entries (faults.NotAMode place) modes is = absurd is
-no_sum_unfit f entries (faults.ModeTooLarge mode) modes is = (modes, is)
-no_sum_unfit f entries (faults.NotEnabled token need has) modes is = absurd is
-no_sum_unfit f entries (faults.TokenTooLarge token) modes is = absurd is
-
-pub unfit_unfired : (f : Flat) (words : List (List ℕ)) (entries : List (Mode × ℕ)) (fault : StepFault) → AreTold f words entries → IsUnfit f entries fault → IsUnfired f words fault
-unfit_unfired f words entries (faults.Memory e) told is = tt
-unfit_unfired f words entries (faults.BadMode place length) told is = absurd is
-unfit_unfired f words entries (faults.NotAMode place) told is = (entries, told, is)
-unfit_unfired f words entries (faults.ModeTooLarge mode) told (modes, is) = (entries, told, modes, is)
-unfit_unfired f words entries (faults.NotEnabled token need has) told is = absurd is
-unfit_unfired f words entries (faults.TokenTooLarge token) told is = absurd is

@@ -1,2 +1,4 @@
+pub mod Collecting
+pub mod Refusing
 pub mod Stepping
 pub mod Telling

@@ -2,6 +2,11 @@
 //! modes of some words lead, all at once, from the initial marking.
 #![tactic(auto)]
 
+mod collected;
+pub mod laws;
 mod stepping;
+mod texts;
+mod told;
 
 pub use stepping::{StepFault, step};
+pub use told::{StepRefusal, step_told};
