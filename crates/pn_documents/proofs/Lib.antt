@@ -16,3 +16,10 @@ pub mod GroundPlainLemmas
 pub mod RoomLemmas
 pub mod FitLemmas
 pub mod StepLemmas
+pub mod SortFitLemmas
+pub mod DeclaredFitLemmas
+pub mod TextIdLemmas
+pub mod FitSortLemmas
+pub mod ResolvedLemmas
+pub mod SortedLemmas
+pub mod InitialTokenLemmas

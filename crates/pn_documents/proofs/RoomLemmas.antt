@@ -26,17 +26,17 @@ use Rattle.pn_documents.proofs.RemarkedLemmas.{arcs_same, own_page, own_page_lay
 -- ---- kids of an element in a tree
 
 -- what passes side by side passes by itself
-all_split : {X : Type 0} (test : X → Bool) (xs ys : List X) → list_all test (xs ++ ys) ≡ true → (list_all test xs ≡ true) × (list_all test ys ≡ true)
+pub all_split : {X : Type 0} (test : X → Bool) (xs ys : List X) → list_all test (xs ++ ys) ≡ true → (list_all test xs ≡ true) × (list_all test ys ≡ true)
 all_split test [] ys h = (refl, h)
 all_split test (x ∷ xs) ys h =
     let rest = all_split test xs ys (and_right (test x) (list_all test (xs ++ ys)) h) in
     (and_both (test x) (list_all test xs) (and_left (test x) (list_all test (xs ++ ys)) h) rest.0, rest.1)
 
-abbrev Kids : ℕ → List Child → Type 0
+abbrev pub Kids : ℕ → List Child → Type 0
 Kids n ks = list_all (is_kid (is_element n)) ks ≡ true
 
 -- each of the elements among kids
-fit_each : (n : ℕ) (es : List Element) → Kids n (map children.Element es) → AllByRecursion (λ e. is_element n e ≡ true) es
+pub fit_each : (n : ℕ) (es : List Element) → Kids n (map children.Element es) → AllByRecursion (λ e. is_element n e ≡ true) es
 fit_each n [] h = tt
 fit_each n (e ∷ es) h = (
   sym (is_kid-element (is_element n) e) ∙ and_left (is_kid (is_element n) (children.Element e)) (list_all (is_kid (is_element n)) (map children.Element es)) h,
@@ -52,7 +52,7 @@ head_fits n h fits =
     let both = all_split (is_kid (is_element n)) (kids_of name_element h.name) (map children.Element h.opaque) fits in
     both_fit n (kids_of name_element h.name) (map children.Element h.opaque) (maybe_fits n name_element h.name both.0) (elements_fit n h.opaque (fit_each n h.opaque both.1))
 
-of_mapped : {A : Type 0} (spell : A → Element) (P : Element → Type 0) (xs : List A) → AllByRecursion P (map spell xs) → AllByRecursion (λ x. P (spell x)) xs
+pub of_mapped : {A : Type 0} (spell : A → Element) (P : Element → Type 0) (xs : List A) → AllByRecursion P (map spell xs) → AllByRecursion (λ x. P (spell x)) xs
 of_mapped spell P [] all = tt
 of_mapped spell P (x ∷ xs) all = (all.0, of_mapped spell P xs all.1)
 

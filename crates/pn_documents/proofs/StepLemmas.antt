@@ -25,6 +25,8 @@ use Rattle.pn_spelling.specs.ReadNets.{net_of}
 use Rattle.pn_spelling.specs.WriteNets.{tree_of_net}
 use Rattle.pn_tree.specs.Canonical.{canonical_text}
 use Rattle.pn_tree.specs.declared.element.Element.{Element}
+use Rattle.pn_documents.specs.Fit.{HasFitSorts}
+use Rattle.pn_documents.proofs.FitSortLemmas.{fit_sorts}
 use Rattle.pn_documents.specs.Written.{IsFitToWrite, IsOtherMarking, SpellsNet}
 use Rattle.pn_documents.proofs.FitLemmas.{marked_fit}
 use Rattle.pn_documents.proofs.InitialLemmas.{marked_initial}
@@ -35,8 +37,11 @@ module _ (f : Flat) (m : List (Token × ℕ)) (n : Net) (other_marking : IsOther
   abbrev tree : Element
   tree = other_marking.tree
 
+  fitting : HasFitSorts f
+  fitting = fit_sorts tree f other_marking.accepted other_marking.linked
+
   pub marked_fits_here : IsFitToWrite n n
-  marked_fits_here = marked_fit f m other_marking.fit other_marking.tokens other_marking.bag n other_marking.marked tree other_marking.accepted other_marking.linked
+  marked_fits_here = marked_fit f m fitting other_marking.tokens other_marking.bag n other_marking.marked tree other_marking.accepted other_marking.linked
 
   -- the bytes are a document of the same net
   pub marked_spells : SpellsNet n (canonical_text (tree_of_net n))
@@ -53,7 +58,7 @@ module _ (f : Flat) (m : List (Token × ℕ)) (n : Net) (other_marking : IsOther
     pub marked_is_initial : IsInitial g m
     marked_is_initial =
         initial_kept _ g (marked_alike f m n other_marking.marked other_marking.linked.wired other g to same_there) m
-        (marked_initial f m other_marking.fit other_marking.tokens other_marking.bag n other_marking.marked)
+        (marked_initial f m fitting other_marking.tokens other_marking.bag n other_marking.marked)
 
     faultless_there : IsFaultless g.declarations
     faultless_there x stands = accepted_sorts other accepted_there x (declared x (subst (λ ds. Stands ds x) (flat_declarations (net_of other) g to.is_flat) stands))

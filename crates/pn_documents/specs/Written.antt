@@ -14,7 +14,6 @@ use Rattle.pn_spelling.specs.ReadNets.{net_of}
 use Rattle.pn_tree.specs.declared.element.Element.{Element}
 use Rattle.pn_checks.specs.NoValue.{IsNoValue}
 use Rattle.pn_checks.specs.Verdicts.{IsAccepted}
-use Rattle.pn_documents.specs.Fit.{HasFitSorts}
 use Rattle.pn_faults.specs.declared.fault.Fault.{Fault}
 use Rattle.pn_net.specs.Flattening.{IsFlattened}
 use Rattle.pn_net.specs.Links.{StandsInLinks}
@@ -43,12 +42,11 @@ pub record IsFitToWrite (n flat : Net) : Type 0 where
   pub spellable : IsSpellableNet flat
   pub writable : IsWritable flat
 
--- the net is made of the flat net of a document that is accepted, whose sorts fit its kind, with this multiset of its tokens as the initial marking
+-- the net is made of the flat net of a document that is accepted, with this multiset of its tokens as the initial marking
 pub record IsOtherMarking (f : Flat) (m : List (Token × ℕ)) (n : Net) : Type 0 where
   pub tree : Element
   pub accepted : IsAccepted tree
   pub linked : IsLinked tree f
-  pub fit : HasFitSorts f
   pub tokens : AreTokensOf f m
   pub bag : IsBag token_cmp m
   pub marked : IsMarkedNet f m n

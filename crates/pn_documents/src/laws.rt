@@ -7,6 +7,7 @@ ghost use Rattle.pn_checks.specs.Linked.{IsLinked};
 ghost use Rattle.pn_checks.specs.Verdicts.{IsAccepted};
 ghost use Rattle.pn_flat_laws.specs.AlikeNets.{AreAlikeNets};
 ghost use Rattle.pn_marking.specs.Steps.{IsStep};
+ghost use Rattle.pn_marking.specs.Totals.{AreTokensOf};
 ghost use Rattle.pn_markup.specs.Document.{IsDocument};
 ghost use Rattle.pn_net.specs.Flattening.{IsFlattened, net_of_flat};
 ghost use Rattle.pn_net.specs.declared.flat.Flat.{Flat};
@@ -56,4 +57,10 @@ pub fn what_is_written_has_the_marking()
         → (marking : List (Token × ℕ)) → IsInitial g marking ↔ (marking ≡ m) }
     ensures keeps { (f g : Flat) (m : List (Token × ℕ)) (n : Net) (other : Element) → IsOtherMarking f m n → IsDocument other (canonical_text (tree_of_net n)) → IsLinked other g
         → (old new : List (Token × ℕ)) (modes : List (Mode × ℕ)) → IsStep f old modes new ↔ IsStep g old modes new }
+{}
+
+/// Each token of the initial marking of a document that is accepted has a value of its place's sort (ISO/IEC 15909-1,
+/// markings).
+pub fn initial_markings_are_of_the_net()
+    ensures { (tree : Element) (f : Flat) (m : List (Token × ℕ)) → IsAccepted tree → IsLinked tree f → IsInitial f m → AreTokensOf f m }
 {}
