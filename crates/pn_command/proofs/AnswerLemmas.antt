@@ -1,5 +1,5 @@
 -- One answer is due, and no other.
-use Rattle.std.proofs.Common.{◌≡◌, ℕ, List, Option, None, Some, MatchOption, IfSome, refl, sym, ap, ◌∙◌, subst, arith, ◌++◌, append-nil}
+use Rattle.std.proofs.Common.{◌≡◌, ◌↔◌, ◌<◌, length, ℕ, List, Option, None, Some, MatchOption, IfSome, refl, sym, ap, ◌∙◌, subst, arith, ◌++◌, append-nil}
 use Rattle.std.specs.Io.KnownBytes.{Consumes, IsAtEnd}
 use Rattle.pn_command.specs.declared.words.Asked.{Asked}
 use Rattle.pn_command.specs.declared.due.Due.{Due}
@@ -22,7 +22,11 @@ use Rattle.pn_sorts.specs.Standing.{IsFaultless}
 use Rattle.pn_sorts.proofs.SettleLemmas.{same_some}
 use Rattle.pn_command.specs.Answer.{Answer, EachAnswer, ForAnswer, IsDueFor, input_too_long, broken, for_tree, IsDueForNet, stopped, output_too_long, given, IsDueForTree, faulty, for_net, IsModesDue, IsTextDue, IsTheDue, Says, SaysSuch, line_answer, output_answer, refusal_answer, status_of_due, usage_answer, usage_due}
 use Rattle.pn_command.specs.Lines.{status_of}
-use Rattle.pn_command.specs.Outputs.{HasText, IsModesText, IsOver, IsOwnLine, IsSummed, IsUnlistedLine, line_of_unlisted}
+use Rattle.pn_command.specs.Outputs.{HasText, IsModesText, IsOutput, IsOver, IsOwnLine, IsStepTree, IsSummed, IsUnlistedLine, line_of_unfired, line_of_unlisted}
+use Rattle.pn_command.proofs.StepLemmas.{unfired_status}
+use Rattle.pn_stepping.specs.Refusing.{IsRefusedStep}
+use Rattle.pn_stepping.specs.declared.told.StepRefusal.{StepRefusal}
+use Rattle.pn_outside.specs.declared.limits.TheConstants.{BYTES}
 use Rattle.pn_checks.specs.Linked.{IsLeastInTree}
 use Rattle.pn_checks.specs.Verdicts.{IsAccepted}
 use Rattle.pn_command.specs.Verdict.{IsRefusal}
@@ -30,11 +34,11 @@ use Rattle.pn_command.specs.declared.lines.Refusal.{Refusal}
 use Rattle.pn_command.proofs.BreakLemmas.{one_break}
 use Rattle.pn_command.proofs.OutputLemmas.{declared_sound, line_or_output, one_line, one_output}
 use Rattle.pn_checks.proofs.OnceLemmas.{least_fault_is_one}
-use Rattle.pn_command.specs.Words.{argument_of, asked_of}
+use Rattle.pn_command.specs.Words.{argument_of, arguments_of, asked_of}
 use Rattle.pn_command.specs.declared.lines.Line.{Line}
 use Rattle.pn_command.specs.declared.lines.Line.TheVariants as lines
 use Rattle.pn_command.specs.declared.status.Status.TheVariants as status
-use Rattle.pn_command.specs.declared.words.Asked.TheVariants.{Check, Flatten, Modes}
+use Rattle.pn_command.specs.declared.words.Asked.TheVariants.{Check, Flatten, Step, Modes}
 
 -- a document is accepted, or refused for one fault
 accepted_and_told : (tree : Element) (f : Fault) → IsAccepted tree → IsLeastInTree tree f → ⊥
@@ -42,13 +46,13 @@ accepted_and_told tree f p q = p f q.least.0
 
 -- a command answers a flat net in one way
 net_once : (asked : Asked) (words : List (List ℕ)) (f : Flat) (a b : Answer) → IsFaultless f.declarations → IsDueForNet asked words f a → IsDueForNet asked words f b → b ≡ a
-net_once asked words f a b sound (stopped l is g) (stopped k also h) = h ∙ ap line_answer (one_line asked words f k l also is) ∙ sym g
-net_once asked words f a b sound (stopped l is g) (output_too_long y also q h) = absurd (line_or_output asked words f l y is also)
-net_once asked words f a b sound (stopped l is g) (given y also q h) = absurd (line_or_output asked words f l y is also)
-net_once asked words f a b sound (output_too_long x is p g) (stopped k also h) = absurd (line_or_output asked words f k x also is)
+net_once asked words f a b sound (stopped l is g) (stopped k also h) = h ∙ ap line_answer (one_line asked words f k l sound also is) ∙ sym g
+net_once asked words f a b sound (stopped l is g) (output_too_long y also q h) = absurd (line_or_output asked words f l y sound is also)
+net_once asked words f a b sound (stopped l is g) (given y also q h) = absurd (line_or_output asked words f l y sound is also)
+net_once asked words f a b sound (output_too_long x is p g) (stopped k also h) = absurd (line_or_output asked words f k x sound also is)
 net_once asked words f a b sound (output_too_long x is p g) (output_too_long y also q h) = h ∙ sym g
 net_once asked words f a b sound (output_too_long x is p g) (given y also q h) = absurd (q (subst (IsOver asked) (one_output asked words f x y sound is also) p))
-net_once asked words f a b sound (given x is p g) (stopped k also h) = absurd (line_or_output asked words f k x also is)
+net_once asked words f a b sound (given x is p g) (stopped k also h) = absurd (line_or_output asked words f k x sound also is)
 net_once asked words f a b sound (given x is p g) (output_too_long y also q h) = absurd (p (subst (IsOver asked) (one_output asked words f y x sound also is) q))
 net_once asked words f a b sound (given x is p g) (given y also q h) = h ∙ ap output_answer (one_output asked words f y x sound also is) ∙ sym g
 
@@ -83,17 +87,6 @@ due_for_words words asked bytes a asks h = record {
 pub said_for_words : (words : List (List ℕ)) (asked : Asked) (bytes : List ℕ) (d : Due) → asked_of words ≡ Some asked → SaysSuch (IsDueFor asked words bytes) d → SaysSuch (IsTheDue words bytes) d
 said_for_words words asked bytes d asks said = (said.0, said.1, due_for_words words asked bytes said.0 asks said.2)
 
--- where the words ask for nothing
-pub said_for_none : (words : List (List ℕ)) (bytes : List ℕ) → asked_of words ≡ None → SaysSuch (IsTheDue words bytes) usage_due
-said_for_none words bytes asks = (
-  usage_answer,
-  refl,
-  record {
-    is = subst (λ o. MatchOption o (usage_answer ≡ usage_answer) (λ x. IsDueFor x words bytes usage_answer)) (sym asks) refl;
-    only = λ other it. subst (λ o. MatchOption o (other ≡ usage_answer) (λ x. IsDueFor x words bytes other)) asks it;
-  },
-)
-
 -- what holds of all that is said holds of each answer that is due, and of the one
 pub each_said : (words : List (List ℕ)) (bytes : List ℕ) (d : Due) (P : Answer → Type 0) → ((a : Answer) → Says d a → P a) → SaysSuch (IsTheDue words bytes) d → EachAnswer words bytes P
 each_said words bytes d P holds said a it = subst P (sym (said.2.only a it)) (holds said.0 said.1)
@@ -117,24 +110,36 @@ all_given (Some xs) (Some ys) bytes P taken end p = subst P (sym (taken ∙ ap (
 pub summary_said : (words : List (List ℕ)) (f : Flat) → (text : List ℕ) × IsSummed f text → SaysSuch (IsDueForNet Check words f) (due.Output (outputs.Summary f))
 summary_said words f (text, is) = (output_answer text, (text, is, refl), given text is (λ none. none) refl)
 
+-- where what is given is the text of a tree, with its limit
+text_said : (asked : Asked) (words : List (List ℕ)) (f : Flat) (tree : Element) (d : Due) → IsOutput asked words f (canonical_text tree)
+    → (BYTES < length (canonical_text tree)) ↔ IsOver asked (canonical_text tree) → IsTextDue tree d → SaysSuch (IsDueForNet asked words f) d
+text_said asked words f tree (due.Line l) output over (is, longer) = (line_answer l, refl, output_too_long (canonical_text tree) output (over.0 longer) (ap line_answer is))
+text_said asked words f tree (due.Output o) output over (is, short) =
+    let text = canonical_text tree in
+    (output_answer text, (text, subst (λ x. HasText x text) (sym is) refl, refl), given text output (λ long. short (over.1 long)) refl)
+
 pub flat_said : (words : List (List ℕ)) (f : Flat) (d : Due) → IsTextDue (tree_of_net (net_of_flat f)) d → SaysSuch (IsDueForNet Flatten words f) d
-flat_said words f (due.Line l) (is, longer) = (line_answer l, refl, output_too_long _ refl longer (ap line_answer is))
-flat_said words f (due.Output o) (is, short) =
-    let text = canonical_text (tree_of_net (net_of_flat f)) in
-    (output_answer text, (text, subst (λ x. HasText x text) (sym is) refl, refl), given text refl short refl)
+flat_said words f d = text_said Flatten words f (tree_of_net (net_of_flat f)) d refl (λ long. long, λ long. long)
+
+pub stepped_said : (words : List (List ℕ)) (f : Flat) (tree : Element) (d : Due) → IsStepTree f (arguments_of words) tree → IsTextDue tree d → SaysSuch (IsDueForNet Step words f) d
+stepped_said words f tree d is = text_said Step words f tree d (tree, is, refl) (λ long. long, λ long. long)
+
+pub unfired_said : (words : List (List ℕ)) (f : Flat) (x : StepRefusal) (l : Line) → IsRefusedStep f (arguments_of words) x → line_of_unfired x ≡ Some l → SaysSuch (IsDueForNet Step words f) (due.Line l)
+unfired_said words f x l is told = (line_answer l, refl, stopped l (x, is, told) refl)
 
 pub modes_said : (words : List (List ℕ)) (f : Flat) (d : Due) → IsModesDue f (argument_of words) d → SaysSuch (IsDueForNet Modes words f) d
 modes_said words f (due.Line l) is = (line_answer l, refl, stopped l is refl)
 modes_said words f (due.Output o) (text, has, is) = (output_answer text, (text, has, refl), given text is (λ none. none) refl)
 
+-- no line comes with an answer that is given
+pub no_line : (k : Line) → status_of k ≡ status.Done → ⊥
+no_line lines.Usage is = absurd cc
+no_line (lines.Limit limit) is = absurd cc
+no_line (lines.Refusal refusal) is = absurd cc
+
 -- what `modes` writes where it is done is its list
 pub modes_listed : (words : List (List ℕ)) (f : Flat) (a : Answer) → IsDueForNet Modes words f a → a.status ≡ status.Done → IsModesText f (argument_of words) a.out
 modes_listed words f a (stopped l is g) ended = absurd (no_line l (sym (ap (λ x. x.status) g) ∙ ended))
-  where
-    no_line : (k : Line) → status_of k ≡ status.Done → ⊥
-    no_line lines.Usage is = absurd cc
-    no_line (lines.Limit limit) is = absurd cc
-    no_line (lines.Refusal refusal) is = absurd cc
 modes_listed words f a (output_too_long text is over g) ended = absurd over
 modes_listed words f a (given text is short g) ended = subst (IsModesText f (argument_of words)) (sym (ap (λ x. x.out) g)) is
 
@@ -143,6 +148,9 @@ refused_due asked words tree (refusals.Broken k) is rises = absurd is
 refused_due asked words tree (refusals.Fault f) is rises = faulty f (is rises) refl
 refused_due asked words tree (refusals.UnknownTransition id) is rises = absurd is
 refused_due asked words tree (refusals.InfiniteSort id) is rises = absurd is
+refused_due asked words tree (refusals.BadMode word at) is rises = absurd is
+refused_due asked words tree (refusals.NotAMode word) is rises = absurd is
+refused_due asked words tree (refusals.NotEnabled token need has) is rises = absurd is
 
 -- what is due for a net is no usage
 
@@ -158,6 +166,7 @@ unlisted_status f id l (fault, unlisted, told) usage = by fault told
 own_status : (asked : Asked) (words : List (List ℕ)) (f : Flat) (l : Line) → IsOwnLine asked words f l → status_of l ≡ status.Usage → ⊥
 own_status Check words f l is usage = is
 own_status Flatten words f l is usage = is
+own_status Step words f l (x, is, told) usage = unfired_status x l told usage
 own_status Modes words f l is usage = unlisted_status f (argument_of words) l is usage
 
 net_status : (asked : Asked) (words : List (List ℕ)) (f : Flat) (a : Answer) → IsDueForNet asked words f a → a.status ≡ status.Usage → ⊥

@@ -5,3 +5,4 @@ pub mod Verdict
 pub mod Answer
 pub mod Reading
 pub mod ModesOfNets
+pub mod Stepped

@@ -20,6 +20,9 @@ IsRefusal tree (refusals.Broken k) = ⊥
 IsRefusal tree (refusals.Fault f) = HasRisingOffsets tree → IsLeastInTree tree f
 IsRefusal tree (refusals.UnknownTransition id) = ⊥
 IsRefusal tree (refusals.InfiniteSort id) = ⊥
+IsRefusal tree (refusals.BadMode word at) = ⊥
+IsRefusal tree (refusals.NotAMode word) = ⊥
+IsRefusal tree (refusals.NotEnabled token need has) = ⊥
 
 -- what comes of a document of this tree: its flat net, or why it is refused
 abbrev pub IsVerdict : Element → Verdict → Type 0

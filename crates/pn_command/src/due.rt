@@ -10,6 +10,7 @@ ghost use Rattle.pn_tree.specs.declared.element.Element.{Element};
 ghost use Rattle.pn_outside.specs.Cause.{Rose};
 ghost use Rattle.pn_command.specs.Answer.{IsDueFor, IsDueForNet, IsDueForTree, IsTextDue, IsTheDue, SaysSuch, status_of_due, usage_due};
 ghost use Rattle.pn_command.specs.Reading.{IsReadToEnd, IsScanned, ReadsNoFurther, TakesBegun};
+ghost use Rattle.pn_command.specs.Verdict.{IsAcceptedAs};
 ghost use Rattle.pn_command.specs.Words.{asked_of};
 
 use crate::Status;
@@ -17,6 +18,7 @@ use crate::input::{Scanned, Stop, scan_all};
 use crate::lines::{Limit, Line, Refusal};
 use crate::listing::list_modes;
 use crate::outputs::{Output, discard_net, flat_tree, summary};
+use crate::stepping::step_due;
 use crate::verdict::{Verdict, find_verdict};
 use crate::words::{Asked, argument, asks};
 use pn_checks::Checked;
@@ -33,7 +35,7 @@ pub(crate) enum Due {
 }
 
 /// The text of a net, or the line for one that is longer than it may be.
-fn text_due(tree: Tree) -> Due
+pub(crate) fn text_due(tree: Tree) -> Due
     ensures { IsTextDue tree result }
 {
     if text_length(&tree) > BYTES {
@@ -59,12 +61,13 @@ fn net_due(
     words: &[String],
     checked: Checked,
 ) -> Result<Due, AllocError>
-    requires linked { (tree : Element) × IsLinked tree checked }
+    requires accepted { (tree : Element) × IsAcceptedAs tree checked }
     ensures { IfOk result (SaysSuch (IsDueForNet asked (map string_bytes words.now) checked)) }
 {
     match asked {
         Asked::Check => Ok(Due::Output(summary(checked))),
         Asked::Flatten => flat_due(alloc, checked),
+        Asked::Step => step_due(alloc, checked, words),
         Asked::Modes => list_modes(alloc, checked, argument(words)),
     }
 }

@@ -9,6 +9,7 @@ mod listing;
 mod mode_list;
 mod outputs;
 mod status;
+mod stepping;
 mod top;
 mod verdict;
 mod words;

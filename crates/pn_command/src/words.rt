@@ -1,5 +1,5 @@
 ghost use Rattle.std.specs.Prelude.{◌≡◌, map, string_bytes};
-ghost use Rattle.pn_command.specs.Words.{argument_of, asked_alone, asked_of, asked_with_one};
+ghost use Rattle.pn_command.specs.Words.{argument_of, arguments_of, asked_alone, asked_of, asked_with_more, asked_with_one};
 
 /// What the words of the command line ask for.
 #[derive(Clone, Copy, Debug, PartialEq, Eq)]
@@ -8,6 +8,8 @@ pub enum Asked {
     Check,
     /// The canonical text of a net.
     Flatten,
+    /// The canonical text of a net, with the marking that a step leads to.
+    Step,
     /// The modes of a transition that are enabled.
     Modes,
 }
@@ -20,7 +22,8 @@ pub fn asks(words: &[String]) -> Option<Asked>
     match words {
         [word] => asked_by(word.as_str()),
         [word, _] => asked_of_one(word.as_str()),
-        _ => None,
+        [word, _, _, ..] => asked_of_more(word.as_str()),
+        [] => None,
     }
 }
 
@@ -44,6 +47,17 @@ fn asked_of_one(word: &str) -> Option<Asked>
     if word == "modes" {
         Some(Asked::Modes)
     } else {
+        asked_of_more(word)
+    }
+}
+
+/// What this word asks for with several words behind it.
+fn asked_of_more(word: &str) -> Option<Asked>
+    ensures { result ≡ asked_with_more word.now }
+{
+    if word == "step" {
+        Some(Asked::Step)
+    } else {
         None
     }
 }
@@ -55,5 +69,15 @@ pub(crate) fn argument(words: &[String]) -> &str
     match words {
         [_, word, ..] => word.as_str(),
         _ => "",
+    }
+}
+
+/// The words behind the command.
+pub(crate) fn arguments(words: &[String]) -> &[String]
+    ensures { map string_bytes result.now ≡ arguments_of (map string_bytes words.now) }
+{
+    match words {
+        [_, rest @ ..] => rest,
+        [] => words,
     }
 }

@@ -8,4 +8,6 @@ mod links;
 #[cfg(test)]
 mod modes;
 #[cfg(test)]
+mod steps;
+#[cfg(test)]
 mod tests;

@@ -26,3 +26,11 @@ returns-in-Modes c =
     IfOk-weaker c.list_modes.result _ _ (λ d is.
     subst (λ a. SaysSuch (IsDueForNet a words f) d) (sym c.in-Modes.is) (modes_said words f d (subst (λ id. IsModesDue f id d) c.argument.ensures is)))
     c.list_modes.ensures
+
+pub flat_due-requires : goal.flat_due-requires
+flat_due-requires c = (c.requires.accepted.0, c.requires.accepted.1.linked)
+
+pub returns-in-Step : goal.returns-in-Step
+returns-in-Step c =
+    let words = map string_bytes c.args.words.now in
+    IfOk-weaker c.step_due.result _ _ (λ d said. subst (λ a. SaysSuch (IsDueForNet a words c.args.checked) d) (sym c.in-Step.is) said) c.step_due.ensures
