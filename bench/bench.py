@@ -8,10 +8,11 @@ one that is drawn with names and graphics, symmetric ones with many declarations
 ask for much: many elements, texts, attributes, references and comments, a long value, name and comment. Each program
 reads each file in turns, and the least of its user times counts. Times and peaks of memory are given as ratios to
 `xmllint --huge --noout`, which makes a tree of the same file. Where xmllint refuses a file or takes over a minute for it,
-the bare figure is shown. A command that refuses a file stops early: its figures then stand in brackets.
+the bare figure is shown. A command that refuses a file stops early: its figures then stand in brackets. A second table has
+`modes` and `step` on the nets, for one transition and one mode of each, as ratios to `check`.
 
-Programs: `crates/pn_count/out/pn_count` (the scanner and the tree alone), and `crates/pn_tool/out/pn_tool` with `check`
-and `flatten`. A run of the gate builds both; so does `rt run` in their folders. xmllint comes with libxml2 (`apt-get
+Programs: `crates/pn_count/out/pn_count` (the scanner and the tree alone), and `crates/pn_tool/out/pn_tool` with `check`,
+`flatten`, `modes` and `step`. A run of the gate builds both; so does `rt run` in their folders. xmllint comes with libxml2 (`apt-get
 install libxml2-utils`). This is no part of the gate.
 """
 import argparse
@@ -109,8 +110,8 @@ def declared_net(size, out):
 
 
 def philosophers(size, out):
-    """A symmetric net of philosophers, each with an enumeration constant of its own, at a round table."""
-    number = max(2, (size - 4096) // 29)
+    """A symmetric net of philosophers, each with an enumeration constant of its own, at a round table; `all` takes 2^20 at most."""
+    number = max(2, min(1048576, (size - 4096) // 57))
     user = '<usersort declaration="P"/>'
 
     def one(term):
@@ -130,10 +131,10 @@ def philosophers(size, out):
     out.write((HEAD + f'<net id="n" type="{SYMMETRIC}"><declaration><structure><declarations><namedsort id="P">'
                f'<cyclicenumeration>').encode())
     for k in range(number):
-        out.write(f'<feconstant id="c{k:08}"/>\n'.encode())
+        out.write(f'<feconstant id="c{k:08}" name="philosopher {k:08}"/>\n'.encode())
     out.write((f'</cyclicenumeration></namedsort><variabledecl id="x">{user}</variabledecl></declarations></structure>'
-               f'</declaration><page id="page">{place("think", number <= 1048576)}{place("eat", False)}'
-               f'{place("fork", number <= 1048576)}<transition id="take"/><transition id="release"/>'
+               f'</declaration><page id="page">{place("think", True)}{place("eat", False)}'
+               f'{place("fork", True)}<transition id="take"/><transition id="release"/>'
                f'{arc("a1", "think", "take", one(x))}{arc("a2", "fork", "take", both)}{arc("a3", "take", "eat", one(x))}'
                f'{arc("a4", "eat", "release", one(x))}{arc("a5", "release", "think", one(x))}'
                f'{arc("a6", "release", "fork", both)}</page></net></pnml>\n').encode())
@@ -180,6 +181,14 @@ FILES = {
 }
 
 
+# of each net that `modes` and `step` are timed on: a transition, and a mode of it
+MODES = {
+    'plain': ('t0', 't0[]'),
+    'shuffled': ('t0', 't0[]'),
+    'drawn': ('t1', 't1[]'),
+    'philosophers': ('take', 'take[x=c00000000]'),
+}
+
 MINUTE = 60
 
 
@@ -208,9 +217,9 @@ def row(path, programs, turns):
     return least
 
 
-def ratio(name, least, part):
-    """A figure of a program as a ratio to that of xmllint, where xmllint took the file."""
-    got, by = least[name], least['xmllint']
+def ratio(name, least, part, base='xmllint'):
+    """A figure of a program as a ratio to that of another, where that took the file."""
+    got, by = least[name], least[base]
     if by[0] != 0 or by[part] == 0:
         figure = f'{got[part]:.2f} s' if part == 1 else f'{got[part]:.0f} MB'
     else:
@@ -241,6 +250,7 @@ def main():
     print(f'{time.strftime("%Y-%m-%d")}, {os.cpu_count()} processors, files of {asked.size} MiB at most, '
           f'least of {asked.turns} turns')
     print()
+    fired = []
     print('| file | xmllint | scanner and tree: time | memory | `check`: time | memory | `flatten`: time | memory |')
     print('|---|---|---|---|---|---|---|---|')
     for kind in asked.kinds or FILES:
@@ -254,10 +264,21 @@ def main():
         figure = f'{by[1]:.2f} s, {by[2]:.0f} MB' if by[0] == 0 else 'over a minute' if by[1] >= MINUTE - 1 else 'refused'
         cells = [ratio(name, least, part) for name in ('count', 'check', 'flatten') for part in (1, 2)]
         print(f'| {what} | {figure} | {" | ".join(cells)} |', flush=True)
+        if kind in MODES:
+            tool = programs[2][1][0]
+            transition, mode = MODES[kind]
+            least = row(path, [('check', [tool, 'check']), ('modes', [tool, 'modes', transition]), ('step', [tool, 'step', mode])], asked.turns)
+            cells = [ratio(name, least, part, 'check') for name in ('modes', 'step') for part in (1, 2)]
+            fired.append(f'| {what} | {least["check"][1]:.2f} s, {least["check"][2]:.0f} MB | {" | ".join(cells)} |')
         if not asked.keep:
             os.remove(path)
     if not asked.keep:
         os.rmdir(folder)
+    if fired:
+        print()
+        print('| file | `check` | `modes`: time | memory | `step`: time | memory |')
+        print('|---|---|---|---|---|---|')
+        print('\n'.join(fired))
 
 
 if __name__ == '__main__':
